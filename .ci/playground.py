@@ -4,8 +4,9 @@ proved and built.
 
 The replies to the networks of `examples/` have to be those that `scionet run` gives without the
 server, and so have the views. A page loaded anew, a second page, and a process that has ended must
-make no difference. Requests that are not those of the page have to be refused. The buttons of the
-page itself are pressed where node is there, without a window, and where `chromium` is there, in its
+make no difference. Requests that are not those of the page have to be refused. What the server
+holds of processes and connections is checked by `playground_bounds.py`. The buttons of the page
+itself are pressed where node is there, without a window, and where `chromium` is there, in its
 tabs.
 
 The word is, if there is one, the folder with the built programs; with `--pictures FOLDER` pictures
@@ -24,6 +25,8 @@ from pathlib import Path
 from urllib.parse import parse_qs, urlsplit
 
 import browser
+import playground_bounds
+import refusals
 
 ROOT = Path(__file__).resolve().parent.parent
 WORDS = argparse.ArgumentParser()
@@ -60,8 +63,8 @@ def printed(words, lines):
 class Server:
     """The server, as its page uses it."""
 
-    def __init__(self):
-        words = [sys.executable, str(ROOT / "tools" / "playground.py"), "--programs", str(PROGRAMS)]
+    def __init__(self, programs=PROGRAMS):
+        words = [sys.executable, str(ROOT / "tools" / "playground.py"), "--programs", str(programs)]
         self.process = subprocess.Popen(words, stdout=subprocess.PIPE, text=True)
         printed_line = self.process.stdout.readline()
         if not printed_line:
@@ -156,8 +159,7 @@ def check_start(checks, server):
     for name in ("row", "pair", "fork"):
         lines = (ROOT / "examples" / f"{name}.txt").read_text().splitlines()
         checks.same(name, start["networks"][name], {"lines": lines})
-    text = (ROOT / "docs" / "refusals.md").read_text()
-    names = dict(re.findall(r"^\| (\d+) \| (\w+) \|", text, re.M))
+    names = {str(number): name for number, name in refusals.all_names().items()}
     found = {number: it["name"] for number, it in start["refusals"].items()}
     checks.same("the refusals", found, names)
     meaning = start["refusals"]["31"]["meaning"]
@@ -533,7 +535,9 @@ def check_rate(checks, server):
 
 
 def main():
-    checks, server = Checks(), Server()
+    checks = Checks()
+    playground_bounds.check(checks, Server, program("scionet"))
+    server = Server()
     try:
         networks = check_start(checks, server)
         check_networks(checks, server, networks)

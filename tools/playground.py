@@ -10,41 +10,46 @@ path consists of is printed by `scionet_view`. Nothing here knows what a network
 
 The server prints its address, which has a token that is made at the start. A request without the
 token, for another host, from another origin, too large or too soon is refused, so that no other
-site can use the server through the browser. It stops at an interrupt, and its processes with it."""
+site can use the server through the browser. Each process that it starts has limits of processor
+time and memory, and ends with it: at an interrupt, at SIGTERM, and also if it is killed."""
 import argparse
 import base64
-import contextlib
 import hashlib
 import http.server
+import io
 import json
 import re
-import secrets
 import signal
 import subprocess
 import sys
 import threading
-import time
 import urllib.parse
 import webbrowser
 from collections import OrderedDict
 from http import HTTPStatus
 from pathlib import Path
 
+sys.dont_write_bytecode = True
+
+from playground_connections import Connections, Guard, Incoming  # noqa: E402
+from playground_processes import VIEW_SECONDS, Processes, Refused  # noqa: E402
+
 ROOT = Path(__file__).resolve().parent.parent
 PAGE = Path(__file__).resolve().with_suffix(".html")
 
-# What a request may have, and how often requests with the token may come.
+# What a request may have.
 BODY_BYTES, LINE_BYTES = 8 << 20, 2 << 20
-REQUESTS_PER_SECOND, BURST = 50, 200
 
 # What a run may have, and how many runs there are. `scionet run` reads at most 64 MiB.
 LINES, RUN_BYTES, CHILDREN = 200_000, 32 << 20, 8
 
-# How long a request may wait for a program, how many views are made at once, and what one prints.
-REPLY_SECONDS, VIEW_SECONDS, VIEWS, VIEW_BYTES = 20, 10, 2, 32 << 20
+# How long a request may wait for a run, how many views are made at once, and the seconds of
+# processor time that a run may have.
+REPLY_SECONDS, VIEWS, RUN_PROCESSOR = 20, 2, 600
 
-# How many connections are open at once, and how long one may be silent.
-CONNECTIONS, SILENT_SECONDS = 32, 10
+# How many connections wait to be opened, how long a whole request may take to come, and how long
+# its answer may take to go.
+WAITING, REQUEST_SECONDS, ANSWER_SECONDS = 128, 10, 10
 
 LARGEST_NUMBER = (1 << 32) - 1
 KEY_BYTES, PACKET_BYTES, INTERFACES = 64, 4096, 8192
@@ -55,14 +60,6 @@ HEX = re.compile(r"(?:[0-9a-fA-F]{2})*")
 ANY_TEXT = re.compile(r".*", re.S)
 WAY_IN = re.compile(r"host|inside|[0-9]{1,5}")
 INTERFACE = re.compile(r"[0-9]{1,5},(?:core|parent|child),[0-9]{1,2},(?:up|down)")
-
-
-class Refused(Exception):
-    """Why a request is refused: a status of HTTP and a sentence."""
-
-    def __init__(self, status, why):
-        super().__init__(why)
-        self.status = status
 
 
 def bad(why):
@@ -139,11 +136,10 @@ class Programs:
 class Child:
     """A process of `scionet run`, which answers each line by a line before it reads on."""
 
-    def __init__(self, program):
-        pipe = subprocess.PIPE
-        self.process = subprocess.Popen(
-            [program, "run"], stdin=pipe, stdout=pipe, stderr=subprocess.DEVNULL
-        )
+    def __init__(self, processes, program):
+        self.processes, pipe = processes, subprocess.PIPE
+        pipes = {"stdin": pipe, "stdout": pipe, "stderr": subprocess.DEVNULL}
+        self.process = processes.start([program, "run"], RUN_PROCESSOR, **pipes)
 
     def answers(self, lines):
         """The replies to these lines: fewer if the process ends, as it does when time is up."""
@@ -165,16 +161,14 @@ class Child:
         return replies
 
     def end(self):
-        self.process.kill()
-        with contextlib.suppress(OSError), self.process:
-            pass  # What was not written yet can't be, and the pipes are closed.
+        self.processes.end(self.process)
 
 
 class Run:
     """The process of a page, and the lines that it has answered."""
 
-    def __init__(self, program):
-        self.child, self.lock = Child(program), threading.Lock()
+    def __init__(self, processes, program):
+        self.child, self.lock = Child(processes, program), threading.Lock()
         self.lines, self.size = [], 0
 
     def answers(self, place, lines):
@@ -202,8 +196,9 @@ class Run:
 class Runs:
     """The runs of the open pages. When there are too many, the one used longest ago is ended."""
 
-    def __init__(self, program):
-        self.program, self.lock, self.runs = program, threading.Lock(), OrderedDict()
+    def __init__(self, processes, program):
+        self.processes, self.program = processes, program
+        self.lock, self.runs = threading.Lock(), OrderedDict()
 
     def begin(self, page):
         """A new run of this page, in place of the one that it has."""
@@ -211,7 +206,7 @@ class Runs:
             self.drop(page)
             while len(self.runs) >= CHILDREN:
                 self.drop(next(iter(self.runs)))
-            self.runs[page] = Run(self.program)
+            self.runs[page] = Run(self.processes, self.program)
             return self.runs[page]
 
     def of(self, page):
@@ -225,11 +220,6 @@ class Runs:
         with self.lock:
             self.drop(page)
 
-    def close(self):
-        with self.lock:
-            for page in [*self.runs]:
-                self.drop(page)
-
     def drop(self, page):
         """Ends the run of this page, if it has one. The lock is held."""
         run = self.runs.pop(page, None)
@@ -240,32 +230,25 @@ class Runs:
 class Viewer:
     """Runs `scionet_view`, a few processes at a time, each for some seconds."""
 
-    def __init__(self, program):
-        self.program, self.places = program, threading.BoundedSemaphore(VIEWS)
+    def __init__(self, processes, program):
+        self.processes, self.program = processes, program
+        self.places = threading.BoundedSemaphore(VIEWS)
 
     def view(self, words, given):
         """What the program prints, and its status."""
         if not self.places.acquire(timeout=VIEW_SECONDS):
             raise Refused(HTTPStatus.SERVICE_UNAVAILABLE, "other views are being made")
         try:
-            done = subprocess.run(
-                [self.program, *words], input=given, capture_output=True, timeout=VIEW_SECONDS
-            )
-        except subprocess.TimeoutExpired as error:
-            why = f"the view took more than {VIEW_SECONDS} seconds"
-            raise Refused(HTTPStatus.GATEWAY_TIMEOUT, why) from error
+            return self.processes.output([self.program, *words], given)
         finally:
             self.places.release()
-        if len(done.stdout) > VIEW_BYTES:
-            raise Refused(HTTPStatus.REQUEST_ENTITY_TOO_LARGE, "the view is too large")
-        text, fault = (it.decode(errors="replace") for it in (done.stdout, done.stderr))
-        return {"text": text, "fault": fault, "status": done.returncode}
 
 
 class Networks:
     """The networks of `examples/`: lines for `scionet run`, the first of which is a topology."""
 
-    def __init__(self, root):
+    def __init__(self, processes, root):
+        self.processes = processes
         self.examples, self.reader = root / "examples", root / "tools" / "topo.py"
 
     def all(self):
@@ -279,10 +262,13 @@ class Networks:
     def read(self, path):
         """The topology in a file of the reference implementation."""
         words = [sys.executable, str(self.reader), str(path)]
-        done = subprocess.run(words, capture_output=True, text=True, timeout=VIEW_SECONDS)
-        if done.returncode:
-            return {"fault": (done.stderr.splitlines() or ["topo.py failed"])[-1]}
-        return {"lines": done.stdout.splitlines()}
+        try:
+            done = self.processes.output(words, b"")
+        except Refused as refused:
+            return {"fault": str(refused)}
+        if done["status"]:
+            return {"fault": (done["fault"].splitlines() or ["topo.py failed"])[-1]}
+        return {"lines": done["text"].splitlines()}
 
 
 class Refusals:
@@ -327,9 +313,10 @@ def turn_words(members):
 class Playground:
     """What the page may ask for: each call takes the members of a request and returns an object."""
 
-    def __init__(self, programs, root):
-        self.runs, self.viewer = Runs(programs.run), Viewer(programs.view)
-        self.networks = Networks(root).all()
+    def __init__(self, processes, programs, root):
+        self.processes = processes
+        self.runs, self.viewer = Runs(processes, programs.run), Viewer(processes, programs.view)
+        self.networks = Networks(processes, root).all()
         self.refusals = Refusals(root / "docs" / "refusals.md").all()
         self.calls = {
             "start": self.start,
@@ -374,48 +361,6 @@ class Playground:
         return self.viewer.view(words, encoded(members.text("topology", ANY_TEXT)))
 
 
-class Rate:
-    """Counts requests: some may come at once, and so many in each second after that."""
-
-    def __init__(self, per_second, burst):
-        self.per_second, self.burst, self.lock = per_second, burst, threading.Lock()
-        self.left, self.since = float(burst), time.monotonic()
-
-    def take(self):
-        """Whether one more may come now."""
-        with self.lock:
-            now = time.monotonic()
-            self.left = min(self.burst, self.left + (now - self.since) * self.per_second)
-            self.since = now
-            if self.left < 1:
-                return False
-            self.left -= 1
-            return True
-
-
-class Guard:
-    """Says which requests are those of the page."""
-
-    def __init__(self, port):
-        self.host, self.token = f"127.0.0.1:{port}", secrets.token_urlsafe(32)
-        self.origin, self.rate = f"http://{self.host}", Rate(REQUESTS_PER_SECOND, BURST)
-
-    def address(self):
-        return f"{self.origin}/?token={self.token}"
-
-    def check(self, headers, token, has_origin):
-        """Refuses a request of another host, origin or token, or one too many."""
-        if headers.get_all("Host") != [self.host]:
-            raise Refused(HTTPStatus.FORBIDDEN, "the host is not this server")
-        origins = headers.get_all("Origin", [])
-        if origins != [self.origin] and (origins or has_origin):
-            raise Refused(HTTPStatus.FORBIDDEN, "the origin is not this server")
-        if not secrets.compare_digest(token.encode(), self.token.encode()):
-            raise Refused(HTTPStatus.FORBIDDEN, "the token is not that of this server")
-        if not self.rate.take():
-            raise Refused(HTTPStatus.TOO_MANY_REQUESTS, "there are too many requests")
-
-
 class Document:
     """The page, and the policy by which a browser loads nothing else and runs no other script."""
 
@@ -438,7 +383,11 @@ class Document:
 class Handler(http.server.BaseHTTPRequestHandler):
     """One request. The page comes by GET, and everything else by POST, as JSON."""
 
-    server_version, sys_version, timeout = "playground", "", SILENT_SECONDS
+    server_version, sys_version = "playground", ""
+
+    def setup(self):
+        super().setup()
+        self.rfile = io.BufferedReader(Incoming(self.connection, REQUEST_SECONDS))
 
     def do_GET(self):
         self.answer(self.page)
@@ -452,6 +401,7 @@ class Handler(http.server.BaseHTTPRequestHandler):
         except Refused as refused:
             status, kind = refused.status, "application/json"
             content = json.dumps({"error": str(refused)}).encode()
+        self.connection.settimeout(ANSWER_SECONDS)
         self.send_response(status)
         for name, value in (
             ("Content-Type", kind),
@@ -465,16 +415,21 @@ class Handler(http.server.BaseHTTPRequestHandler):
         self.end_headers()
         self.wfile.write(content)
 
+    def check(self, token, has_origin):
+        """Refuses what does not come from the page; what does keeps its connection."""
+        self.server.guard.check(self.headers, token, has_origin)
+        self.server.connections.know(self.connection)
+
     def page(self):
         path, _, query = self.path.partition("?")
         token = urllib.parse.parse_qs(query).get("token", [""])[0]
-        self.server.guard.check(self.headers, token, False)
+        self.check(token, False)
         if path != "/":
             raise Refused(HTTPStatus.NOT_FOUND, "there is no such page")
         return "text/html; charset=utf-8", self.server.document.bytes
 
     def call(self):
-        self.server.guard.check(self.headers, self.headers.get("Playground-Token", ""), True)
+        self.check(self.headers.get("Playground-Token", ""), True)
         call = self.server.playground.calls.get(self.path.removeprefix("/"))
         if not call:
             raise Refused(HTTPStatus.NOT_FOUND, "there is no such call")
@@ -508,16 +463,16 @@ class Handler(http.server.BaseHTTPRequestHandler):
 class Server(http.server.ThreadingHTTPServer):
     """Serves a playground at the loopback address, by a free port, with a few threads at a time."""
 
-    daemon_threads = True
+    daemon_threads, request_queue_size = True, WAITING
 
     def __init__(self, playground, document):
         super().__init__(("127.0.0.1", 0), Handler)
         self.playground, self.document = playground, document
         self.guard = Guard(self.server_port)
-        self.places = threading.BoundedSemaphore(CONNECTIONS)
+        self.connections = Connections()
 
     def process_request(self, request, client_address):
-        if self.places.acquire(blocking=False):
+        if self.connections.add(request):
             super().process_request(request, client_address)
         else:
             self.shutdown_request(request)
@@ -526,7 +481,7 @@ class Server(http.server.ThreadingHTTPServer):
         try:
             super().process_request_thread(request, client_address)
         finally:
-            self.places.release()
+            self.connections.remove(request)
 
     def handle_error(self, request, client_address):
         """A browser that goes away is no fault."""
@@ -535,7 +490,16 @@ class Server(http.server.ThreadingHTTPServer):
 
     def server_close(self):
         super().server_close()
-        self.playground.runs.close()
+        self.playground.processes.close()
+
+
+def serve(playground, is_opened):
+    """Serves a playground until an interrupt."""
+    with Server(playground, Document(PAGE)) as server:
+        print(f"playground: {server.guard.address()}", flush=True)
+        if is_opened:
+            webbrowser.open(server.guard.address())
+        server.serve_forever()
 
 
 def main():
@@ -545,20 +509,16 @@ def main():
         "--programs", type=Path, default=ROOT / "crates", help="where the built programs are"
     )
     words = parser.parse_args()
+    signal.signal(signal.SIGTERM, signal.default_int_handler)
+    processes = Processes()
     try:
-        playground = Playground(Programs(words.programs), ROOT)
-        server = Server(playground, Document(PAGE))
+        serve(Playground(processes, Programs(words.programs), ROOT), words.open)
     except OSError as error:
         sys.exit(f"playground: {error}")
-    signal.signal(signal.SIGTERM, signal.default_int_handler)
-    with server:
-        print(f"playground: {server.guard.address()}", flush=True)
-        if words.open:
-            webbrowser.open(server.guard.address())
-        try:
-            server.serve_forever()
-        except KeyboardInterrupt:
-            pass
+    except KeyboardInterrupt:
+        pass
+    finally:
+        processes.close()
 
 
 if __name__ == "__main__":
