@@ -48,6 +48,15 @@ def bound():
     return one
 
 
+def free_ports(count):
+    """Free ports of the loopback address."""
+    sockets = [bound() for _ in range(count)]
+    found = [one.getsockname()[1] for one in sockets]
+    for one in sockets:
+        one.close()
+    return found
+
+
 class Network:
     """The ASes and links of a topology, and what was made of them: beacons, segments, answers."""
 
@@ -111,29 +120,37 @@ class Network:
 
 
 class Routers:
-    """A process for each router, and a socket for the hosts of all ASes."""
+    """A process for each router, which ends after some packets, and a socket for the hosts of all
+    ASes. Quiet ones tell no turns."""
 
-    def __init__(self, network, program):
-        self.hosts, self.children = bound(), []
+    def __init__(self, network, program, packets=PACKETS, is_quiet=False):
+        self.network, self.program, self.packets = network, program, packets
+        self.hosts, self.children, self.is_quiet = bound(), {}, is_quiet
         self.hosts.settimeout(SECONDS)
         owners = [(ia, it) for ia, own in network.ases.items() for it in range(own["routers"])]
-        sockets = {owner: bound() for owner in owners}
-        self.ports = {owner: one.getsockname()[1] for owner, one in sockets.items()}
-        self.lines, end = os.pipe()
-        for owner, one in sockets.items():
-            one.close()
-            words = [program, *map(str, self.words(network, *owner))]
-            self.children.append(subprocess.Popen(words, stdout=end))
-        os.close(end)
+        self.ports = dict(zip(owners, free_ports(len(owners))))
+        self.lines, self.told_at = os.pipe()
         self.told = self.read()
-        for _ in owners:
-            if next(self.told) != "ready":
-                sys.exit("network: a router did not begin")
+        for owner in owners:
+            self.begin(owner)
 
-    def words(self, network, ia, router):
+    def begin(self, owner):
+        """Starts a router, which is ready then."""
+        words = [self.program, *map(str, self.words(*owner))]
+        self.children[owner] = subprocess.Popen(words, stdout=self.told_at)
+        if next(self.told) != "ready":
+            sys.exit("network: a router did not begin")
+
+    def kill(self, owner):
+        """Ends a router without a word, as a fault of its machine would."""
+        self.children[owner].kill()
+        self.children[owner].wait()
+
+    def words(self, ia, router):
         """The command line of a router."""
-        yield from (self.ports[ia, router], ia, f"{number_of(ia):016x}", router)
-        yield from (network.ases[ia]["key"], network.now, PACKETS, SECONDS)
+        network, name = self.network, "-" if self.is_quiet else ia
+        yield from (self.ports[ia, router], name, f"{number_of(ia):016x}", router)
+        yield from (network.ases[ia]["key"], network.now, self.packets, SECONDS)
         yield self.hosts.getsockname()[1]
         for (at, number), (owner, far, kind) in network.ends.items():
             if at == ia:
@@ -166,7 +183,7 @@ class Routers:
                 return None
 
     def end(self):
-        for child in self.children:
+        for child in self.children.values():
             child.terminate()
             child.wait()
 

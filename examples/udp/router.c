@@ -14,7 +14,8 @@
  *
  * A datagram is a packet. The port that it came from says how it came, never what is in it: from
  * the far end of a link, from a router of the AS, or else from a host. So two routers have at most
- * one link between them. */
+ * one link between them. Links, routers and hosts have the address 127.0.0.1: what comes from
+ * another one is left out, whatever its port. */
 #include <arpa/inet.h>
 #include <scion.h>
 #include <stdio.h>
@@ -36,10 +37,23 @@ static void stop(const char *why) {
     exit(1);
 }
 
-static size_t unhex(const char *text, uint8_t *to, size_t room) {
-    size_t len = 0;
-    for (unsigned byte; len < room && sscanf(text + 2 * len, "%2x", &byte) == 1; len++)
-        to[len] = (uint8_t)byte;
+/* The number of a hexadecimal digit, or -1. */
+static int digit(char sign) {
+    if (sign >= '0' && sign <= '9') return sign - '0';
+    if (sign >= 'a' && sign <= 'f') return sign - 'a' + 10;
+    if (sign >= 'A' && sign <= 'F') return sign - 'A' + 10;
+    return -1;
+}
+
+/* The length of the key that this text gives, two digits for each byte. */
+static size_t read_key(const char *text) {
+    size_t digits = strlen(text), len = digits / 2;
+    if (!len || len > sizeof key || digits % 2) stop("a key has 1 to 64 bytes of two digits each");
+    for (size_t i = 0; i < len; i++) {
+        int high = digit(text[2 * i]), low = digit(text[2 * i + 1]);
+        if (high < 0 || low < 0) stop("a key has a sign that is no hexadecimal digit");
+        key[i] = (uint8_t)(high * 16 + low);
+    }
     return len;
 }
 
@@ -110,12 +124,13 @@ static struct sockaddr_in loopback(uint16_t port) {
     return address;
 }
 
-/* One datagram: a turn of the router on it, and on its way. */
-static void forward(int on, const char *name, uint32_t now, uint16_t host) {
+/* One datagram: a turn of the router on it, and on its way. Returns how many packets it was. */
+static int forward(int on, const char *name, uint32_t now, uint16_t host) {
     struct sockaddr_in from = loopback(0);
     socklen_t size = sizeof from;
     ssize_t len = recvfrom(on, packet, sizeof packet, 0, (struct sockaddr *)&from, &size);
     if (len < 0) stop("no datagram was received");
+    if (from.sin_family != AF_INET || from.sin_addr.s_addr != htonl(INADDR_LOOPBACK)) return 0;
     uint16_t interface;
     uint8_t arrival = way_in(ntohs(from.sin_port), &interface);
     scion_answer answer = scion_step(&self, now, arrival, interface, packet, (size_t)len);
@@ -124,6 +139,7 @@ static void forward(int on, const char *name, uint32_t now, uint16_t host) {
     struct sockaddr_in to = loopback(port);
     if (port && sendto(on, packet, (size_t)len, 0, (struct sockaddr *)&to, sizeof to) != len)
         stop("a datagram was not sent");
+    return 1;
 }
 
 int main(int count, char **words) {
@@ -131,7 +147,7 @@ int main(int count, char **words) {
     struct sockaddr_in own = loopback((uint16_t)atoi(words[1]));
     self.ia = strtoull(words[3], NULL, 16);
     self.router = (uint8_t)atoi(words[4]);
-    self.key_len = unhex(words[5], key, sizeof key);
+    self.key_len = read_key(words[5]);
     uint32_t now = (uint32_t)strtoull(words[6], NULL, 10);
     for (int i = 10; i < count; i++) add_peer(words[i]);
     alarm((unsigned)atoi(words[8]));
@@ -139,7 +155,7 @@ int main(int count, char **words) {
     if (on < 0 || bind(on, (struct sockaddr *)&own, sizeof own)) stop("the port is not free");
     printf("ready\n");
     fflush(stdout);
-    for (int left = atoi(words[7]); left > 0; left--)
-        forward(on, words[2], now, (uint16_t)atoi(words[9]));
+    for (int left = atoi(words[7]); left > 0;)
+        left -= forward(on, words[2], now, (uint16_t)atoi(words[9]));
     return 0;
 }

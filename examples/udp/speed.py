@@ -18,15 +18,6 @@ import network  # noqa: E402
 RUNS, SECONDS = 5, 60
 
 
-def ports(count):
-    """Free ports of the loopback address."""
-    sockets = [network.bound() for _ in range(count)]
-    found = [one.getsockname()[1] for one in sockets]
-    for one in sockets:
-        one.close()
-    return found
-
-
 def packets_a_second(server, load, sent_from, to, at, packets, packet):
     """How many packets a second pass a server with these words."""
     with subprocess.Popen([*map(str, server)], stdout=subprocess.PIPE, text=True) as child:
@@ -40,7 +31,7 @@ def packets_a_second(server, load, sent_from, to, at, packets, packet):
 
 def through_router(made, ia, program, load, packets, packet):
     """The first router of an AS, quiet: from a host to the one link that it owns."""
-    own, host, far = ports(3)
+    own, host, far = network.free_ports(3)
     [(number, kind)] = [(it, kind) for (at, it), (_, _, kind) in made.ends.items() if at == ia]
     server = [program, own, "-", f"{network.number_of(ia):016x}", 0, made.ases[ia]["key"]]
     server += [made.now, packets, SECONDS, host, f"link:{number}:{int(kind)}:0:{far}"]
@@ -48,7 +39,7 @@ def through_router(made, ia, program, load, packets, packet):
 
 
 def through_echo(load, packets, packet):
-    own, host = ports(2)
+    own, host = network.free_ports(2)
     return packets_a_second([load, "echo", own, packets], load, host, own, host, packets, packet)
 
 
