@@ -89,6 +89,10 @@ class Gate:
         words = [sys.executable, "-B", os.path.join("examples", "udp", "network.py"), program]
         with open("examples/pair.txt", "rb") as it:
             self.run(f"routers by {name}", words, stdin=it)
+        words = [sys.executable, "-B", os.path.join(".ci", "udp.py"), program]
+        for network in ("row", "pair"):
+            with open(f"examples/{network}.txt", "rb") as it:
+                self.run(f"200 packets over {network} by {name}", words, stdin=it)
 
     def tour_in_cxx(self):
         if self.has(CXX):

@@ -5,10 +5,12 @@
 //   import { load } from "./scion.mjs";
 //   const library = await load(await readFile("scion.wasm"));
 //
-// Calls copy what they are given into a fixed part of the module's memory, and clear it before they
-// return. They refuse what is no Uint8Array by TypeError, and by RangeError a number that does not
-// fit its place, or bytes for which that part has no room. The library is proved, and this module
-// is not: bindings/README.md says what a host has to keep.
+// Calls read all that they are given into values of their own, which may run code of the host: a
+// getter, an iterator. Only then do they copy these into a fixed part of the module's memory, which
+// they clear before they return. So that code may call the library too. They refuse what is no
+// Uint8Array by TypeError, and by RangeError a number that does not fit its place, or bytes for
+// which that part has no room. The library is proved, and this module is not: bindings/README.md
+// says what a host has to keep.
 
 export const VERSION = "0.1.0";
 
@@ -143,18 +145,23 @@ class Arena {
   }
 }
 
-/** A scion_router. */
-function parts(arena, { ia, key, interfaces, previous = new Uint8Array(), router = 0 }) {
+/** What is read of a router. */
+function routerRead({ ia, key, interfaces, previous = new Uint8Array(), router = 0 }) {
   const keys = [copy("key", key), copy("previous", previous)];
   const rows = Array.from(interfaces, row);
-  const slices = keys.flatMap((it) => [arena.put(it), it.length]);
-  const table = arena.put(rows.flat());
-  return arena.words([address(ia), ...slices, table, rows.length, whole("router", router, 8)]);
+  return { ia: address(ia), keys, rows, router: whole("router", router, 8) };
 }
 
-/** How a packet came, and by which interface. */
-function wayIn({ arrival = Arrival.FROM_HOST, interface: number = 0 }) {
-  return [whole("arrival", arrival, 8), whole("interface", number, 16)];
+/** A scion_router of what was read. */
+function parts(arena, { ia, keys, rows, router }) {
+  const slices = keys.flatMap((it) => [arena.put(it), it.length]);
+  const table = arena.put(rows.flat());
+  return arena.words([ia, ...slices, table, rows.length, router]);
+}
+
+/** What is read of a packet: its bytes, how it came, and by which interface. */
+function packetRead({ bytes, arrival = Arrival.FROM_HOST, interface: number = 0 }) {
+  return [copy("packet", bytes), whole("arrival", arrival, 8), whole("interface", number, 16)];
 }
 
 /** The calls of a module. A router is `{ ia, key, interfaces, previous, router }`, whose interfaces
@@ -176,21 +183,21 @@ export class Library {
   /** One step of a router on a packet, at the second `now`: the code, the number and the bytes
    * after it. */
   step(router, now, packet) {
+    const [bytes, ...came] = packetRead(packet);
+    const [own, second] = [routerRead(router), whole("now", now, 32)];
     return this.#arena.within((arena) => {
-      const bytes = copy("packet", packet.bytes);
-      const words = [parts(arena, router), arena.put(bytes), arena.put([0, 0, 0, 0])];
+      const words = [parts(arena, own), arena.put(bytes), arena.put([0, 0, 0, 0])];
       const [at, room, answer] = words.map(BigInt);
-      const second = whole("now", now, 32);
-      const length = BigInt(bytes.length);
-      this.#calls.scion_step(answer, at, second, ...wayIn(packet), room, length);
+      this.#calls.scion_step(answer, at, second, ...came, room, BigInt(bytes.length));
       return { ...arena.answer(words[2]), bytes: arena.bytes(words[1], bytes.length) };
     });
   }
 
   /** One step on each packet; Refused if there is no such router. */
   stepAll(router, now, packets) {
+    const copies = Array.from(packets, packetRead);
+    const [own, second] = [routerRead(router), whole("now", now, 32)];
     return this.#arena.within((arena) => {
-      const copies = Array.from(packets, (it) => [copy("packet", it.bytes), ...wayIn(it)]);
       const rooms = copies.map(([bytes]) => arena.put(bytes));
       // A scion_packet has 24 bytes: its answer is at 18, and how it came at 22.
       const records = copies.flatMap(([bytes, arrival, number], i) => {
@@ -199,8 +206,7 @@ export class Library {
       });
       const table = arena.words(records);
       const given = arena.put([0, 0, 0, 0]);
-      const words = [given, parts(arena, router)].map(BigInt);
-      const second = whole("now", now, 32);
+      const words = [given, parts(arena, own)].map(BigInt);
       const counted = [BigInt(table), BigInt(copies.length)];
       this.#calls.scion_step_all(...words, second, ...counted);
       done(arena.answer(given));
@@ -221,8 +227,8 @@ export class Library {
   }
 
   #header(call, bytes) {
+    const data = copy("bytes", bytes);
     return this.#arena.within((arena) => {
-      const data = copy("bytes", bytes);
       const [room, answer] = [arena.put(data), arena.put([0, 0, 0, 0])];
       call(BigInt(answer), BigInt(room), BigInt(data.length));
       return { number: done(arena.answer(answer)), bytes: arena.bytes(room, data.length) };
@@ -231,15 +237,15 @@ export class Library {
 
   /** The authenticator of a hop; Refused if the key is not of 1 to 64 bytes. */
   hopMac(key, beta, timestamp, expTime, consIngress, consEgress) {
+    const data = copy("key", key);
+    const values = [
+      whole("beta", beta, 16),
+      whole("timestamp", timestamp, 32),
+      whole("expTime", expTime, 8),
+      whole("consIngress", consIngress, 16),
+      whole("consEgress", consEgress, 16),
+    ];
     return this.#arena.within((arena) => {
-      const data = copy("key", key);
-      const values = [
-        whole("beta", beta, 16),
-        whole("timestamp", timestamp, 32),
-        whole("expTime", expTime, 8),
-        whole("consIngress", consIngress, 16),
-        whole("consEgress", consEgress, 16),
-      ];
       const [at, answer] = [arena.put(data), arena.put([0, 0, 0, 0])];
       const mac = arena.put(new Uint8Array(6));
       const slice = [BigInt(at), BigInt(data.length)];

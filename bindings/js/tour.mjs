@@ -153,10 +153,44 @@ function unfit() {
   });
 }
 
+/** Arguments that call the library while they are read, which changes no answer. */
+function entered() {
+  const other = () => library.hopMac(unhex("6c".repeat(64)), 1, 2, 3, 4, 5);
+  const calling = (values) => {
+    const found = {};
+    for (const [name, value] of Object.entries(values)) {
+      Object.defineProperty(found, name, { get: () => (other(), value), enumerable: true });
+    }
+    return found;
+  };
+  const listed = function* (values) {
+    for (const value of values) {
+      other();
+      yield value;
+    }
+    other();
+  };
+  const came = { bytes: SENT, arrival: Arrival.FROM_HOST, interface: 0 };
+  const members = { ...PARTS, previous: unhex("6b"), router: 0 };
+  const wanted = { code: Code.TO_LINK, number: 2, bytes: GONE };
+  const up = { valueOf: () => (other(), 1) };
+  const interfaces = () => listed([calling({ ...PARENT, router: 0, up })]);
+  const each = (what, router, packet) => {
+    expect(`${what} that calls`, library.step(router(), 100, packet), wanted);
+    const all = library.stepAll(router(), 100, listed([packet, packet]));
+    expect(`${what} that calls, all`, all, [wanted, wanted]);
+  };
+  each("a packet", () => members, calling(came));
+  each("a router", () => calling(members), came);
+  each("a list of interfaces", () => ({ ...members, interfaces: interfaces() }), came);
+  each("each member", () => calling({ ...members, interfaces: interfaces() }), calling(came));
+}
+
 turns();
 deliveries();
 hostile();
 headers();
 unfit();
+entered();
 console.log(`${count} answers, ${wrong} wrong`);
 process.exit(wrong ? 1 : 0);

@@ -173,7 +173,11 @@ class Tour:
         for call in (library.header_length, library.header_reverse):
             self.raises("header 36", TypeError, call, 36)
             self.raises("header of wide items", TypeError, call, wide)
-        for like in (bytearray(SENT), memoryview(SENT), array.array("B", SENT)):
+        second = memoryview(bytes(it for byte in SENT for it in (byte, 0)))[::2]
+        turned = memoryview(SENT[::-1])[::-1]
+        rows = memoryview(SENT).cast("B", (2, len(SENT) // 2))
+        whole = bytearray(SENT), memoryview(SENT), array.array("B", SENT)
+        for like in (*whole, second, turned, rows):
             given = library.step(at111, 100, Packet(like))
             self.expect("like bytes", given, (Code.TO_LINK, 2, packet_gone()))
 

@@ -32,7 +32,7 @@ __version__ = "0.1.0"
 # The largest number of bytes in a request for paths, or to verify one.
 MAX_REQUEST = 4194304
 
-# What holds bytes: each object with a buffer of items of one byte.
+# What holds bytes: each object with a buffer of items of one byte, also with steps between them.
 Bytes = Union[bytes, bytearray, memoryview]
 
 
@@ -208,9 +208,12 @@ def _whole(name: str, value: int, bits: int) -> int:
 
 def _copy(name: str, data: Bytes) -> bytes:
     """The bytes as they are now, whatever another thread writes there later."""
-    if isinstance(data, (bytes, bytearray)) or memoryview(data).itemsize == 1:
+    if isinstance(data, (bytes, bytearray)):
         return b"".join([data])
-    raise TypeError(f"the items of {name} have more than one byte")
+    with memoryview(data) as view:
+        if view.itemsize != 1:
+            raise TypeError(f"the items of {name} have more than one byte")
+        return view.tobytes()
 
 
 def _room(data: bytes) -> Any:
