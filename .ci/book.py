@@ -16,8 +16,8 @@ ROOT = "network_core/Ran.Ran"
 SENTENCE = """\
 > In every interleaving of beaconing, registration, lookup, sending and router turns, a packet sent
 > on a path that the verifier accepted is refused by no router, passes exactly the hops of that path
-> in order, is delivered in its destination AS once it has had two router turns per hop field, and
-> its hops are a word of the sender's policy and pass its ACL."""
+> in order, and is delivered in its destination AS once it has had two router turns per hop field;
+> these hops are a word of the policy's sequence and pass its ACL."""
 
 FRONT = f"""# The book of the headline
 
@@ -124,9 +124,9 @@ FIRST_HOUR = (
     (
         "Words of SCION (AS, beacon, segment, hop field) are explained in [the"
         " tutorial](tutorial.md). `scionet run` calls [`run_lines`](#event_lines-run_lines), which"
-        " promises `Runs`: whatever the result, what was written (`went`) are the replies to the lines"
-        " that were read; the first line is a topology, and the later ones are a run (`Ran`) of their"
-        " events.",
+        " promises `Runs`: if it succeeds, what was written (`went`) are the replies to all lines; the"
+        " first line is a topology, and the later ones are a run (`Ran`) of their events. After a fault"
+        " the same holds of the lines that were answered, which `Ends` says fault by fault.",
         "event_lines/Run.Runs event_lines/Run.Listens event_lines/Run.Ends event_lines/Run.Wrote"
         " event_lines/Answers.RepliesToInput event_lines/Answers.Begins"
         " event_lines/Answers.AreRun network_core/Ran.Ran",

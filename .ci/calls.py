@@ -20,8 +20,9 @@ The rest of the comment, with the meaning of each refusal and what a call costs,
 item in `crates/NAME/src`. A crate above uses the public clauses of a crate, the definitions that
 they cite ([definitions.md](definitions.md)) and its laws. A law is the contract of a function that
 does nothing; a proof uses it by citing the lemma that stands behind it here. Proofs may also cite
-`refusal::proofs::Steps`, `json_fields::proofs`, `separators::proofs` and `isd_as`'s lemmas on texts
-(`Spelled`, `Canonical`, `Digits`), as those of a library.
+`refusal::proofs::Steps`, `json_fields::proofs`, `separators::proofs`, `isd_as`'s lemmas on texts
+(`Spelled`, `Canonical`, `Digits`) and `event_lines`'s on lines that were read (`Lines`, `Heard`,
+`Ran`, `Running`, `Telling`, `Writing`), as those of a library.
 
 Behind 'Clauses' stand the names of what the call promises, and behind 'Cites' the definitions that
 say it. A clause without a name counts as 'one', and is left out where it is the only one and cites

@@ -10,7 +10,7 @@ import sys
 import textwrap
 from pathlib import Path
 
-from pages import filled
+from pages import filled, is_check
 
 TITLE = re.compile(r"# `(\w+)`: (.*)\n")
 TAKEN = re.compile(r"^From \[`(.*?)`\].*:\n\n```\w+\n(.*?)```$", re.M | re.S)
@@ -89,7 +89,7 @@ def is_taken(path, code):
 def main():
     crates = graph()
     texts = ["\n".join(picture(crates)) + "\n", "\n".join(pages())]
-    if sys.argv[1:] != ["--check"]:
+    if not is_check():
         print("\n".join(texts), end="")
         return
     listed = " ".join(LAYERS.values()).split()

@@ -4,10 +4,11 @@
 In each run one allocation of the process is refused: the first, the second, and so on, until a run
 asks for no more. `scionet` must write its whole answer and end with status 0, or write the first
 lines of it, say that it is out of memory and end with status 1. Then `scionet run` must have
-written the replies to all lines before the one that asked for this allocation; which line did is
-known from how many allocations the first lines alone ask for. A test that may be short of memory
-once must pass. Where no allocation is refused, no test may be short of memory at all. In some run
-of the daemon's test an answer must not have been kept.
+written the replies to all lines before the one that asked for this allocation, and `scionet_view
+explain` what there is to say of them; which line did is known from how many allocations the first
+lines alone ask for. A test that may be short of memory once must pass. Where no allocation is
+refused, no test may be short of memory at all. In some run of the daemon's test an answer must not
+have been kept.
 
 The last line says how many runs there were and how many were wrong; the status is 1 where one was.
 """
@@ -44,6 +45,16 @@ SERVED = "daemon::an_answer_is_served_while_its_segments_stay"
 
 # The case in which a packet is delivered, and the one whose lines have policies.
 ROW, POLICIES = "three ASes in a row", "access lists, sequences and options"
+
+# Lines after a topology of which each is refused, or warned of.
+FAULTY = b'''{"do":"turn"}
+
+{"do":"tick","now":1000,"second":2}
+{"do":"ask","src":"1-9","dst":"1-8","limit":4,"acls":["+"]}
+{"do":"ask","src":"1-9","dst":"1-8","limit":4,"sequence":"(1-9 0*"}
+{"do":"cut","ia":"1-ff00:0:111","if":9}
+{"do":"tick"
+'''
 
 # More allocations than any of these runs makes; how many runs are begun together; the seconds of
 # each.
@@ -118,11 +129,11 @@ def asked(library, words, given):
 
 
 class Program:
-    """The program with some words: what it is given, and what it has to write."""
+    """A program with some words: what it is given, and what it has to write."""
 
-    def __init__(self, words, given, answer):
-        self.name, self.given, self.answer = " ".join(["scionet", *words]), given, answer
-        self.words = [executable("scionet", "scionet"), *words]
+    def __init__(self, words, given, answer, name="scionet"):
+        self.name, self.given, self.answer = " ".join([name, *words]), given, answer
+        self.words = [executable(name, name), *words]
 
     def is_right(self, run):
         if (run.status, run.output, run.errors) == (0, self.answer, b""):
@@ -141,13 +152,34 @@ class Lines(Program):
 
     def losses(self, library, pool, runs):
         """The runs that lack a reply to a line before the one at which memory ran out."""
-        lines, replies = self.given.splitlines(True), self.answer.splitlines(True)
+        lines, replies = self.given.splitlines(True), self.replies()
         fronts = [b"".join(lines[:count]) for count in range(1, len(lines) + 1)]
         counts = [*pool.map(lambda front: asked(library, self.words, front), fronts)]
         for run in runs:
             before = replies[: bisect.bisect_left(counts, run.number)]
             if run.status == 1 and run.output != b"".join(before):
                 yield f"allocation {run.number}: not all replies before its line: {run.output}"
+
+    def replies(self):
+        """What it writes of each line."""
+        return self.answer.splitlines(True)
+
+
+class Explanations(Lines):
+    """`scionet_view explain`, which writes what there is to say of each line."""
+
+    def __init__(self, given):
+        words = [executable("scionet_view", "scionet_view"), "explain"]
+        answer = subprocess.run(words, input=given, capture_output=True, check=True).stdout
+        super().__init__(["explain"], given, answer, "scionet_view")
+        if not all(self.replies()[1:]):
+            stop("a line has no explanation, so that none is looked for before it")
+
+    def replies(self):
+        told = [b""] * len(self.given.splitlines())
+        for line in self.answer.splitlines(True):
+            told[int(line.split()[1].strip(b":")) - 1] += line
+        return told
 
 
 class Test:
@@ -174,6 +206,7 @@ def programs():
     given, answer = case(ROW)
     yield Lines(["run"], given, answer)
     yield Lines(["run"], *case(POLICIES))
+    yield Explanations(given.splitlines(True)[0] + FAULTY)
     lines, replies = given.splitlines(True), answer.splitlines(True)
     at = next(place for place, line in enumerate(lines) if b'"send"' in line)
     twice = b"".join([*lines[:at], lines[at], lines[at]])
