@@ -12,7 +12,7 @@ use Rattle.path_verifier.proofs.Breaches.{accepts, hops_kept, path_kept, word_ke
 use Rattle.path_verifier.proofs.Course.{ases, walk_begins, walk_ends}
 use Rattle.path_verifier.proofs.Hops.{length_hops_of}
 use Rattle.combinator.specs.inner.Alike.{AreAlike, AreAllAlike, IsUsable}
-use Rattle.combinator.proofs.Walks.{walk_alike, length_alike_hops}
+use Rattle.combinator.proofs.Joined.{walk_alike, length_alike_hops}
 
 pub alike_turned : (one other : PieceValue) → AreAlike one other → AreAlike other one
 alike_turned one other alike = record {

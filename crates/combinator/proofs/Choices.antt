@@ -122,6 +122,11 @@ best_of groups pieces others are best of = record {
       (as_late best.half (lasts_until best.half groups pieces best.least)));
 }
 
+-- the heads are a choice
+pub heads_there : (groups : List GroupValue) → AllByRecursion IsGroup groups → AreOf groups (heads_of groups)
+heads_there [] are = tt
+heads_there (group ∷ groups) are = (are.0.there, heads_there groups are.1)
+
 -- each choice is like the heads
 pub heads_alike : (groups : List GroupValue) (pieces : List PieceValue) → AllByRecursion IsGroup groups → AreOf groups pieces
     → AreAllAlike (heads_of groups) pieces

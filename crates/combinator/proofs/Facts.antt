@@ -14,7 +14,7 @@ use Rattle.combinator.specs.inner.Search.{IsMetBy, IsNoBetter}
 use Rattle.combinator.specs.inner.Alike.{IsUsable, AreAlike}
 use Rattle.combinator.specs.inner.Group.{heads_of, GroupValue, IsGroup, AreOf}
 use Rattle.combinator.specs.inner.Over.{OfEachOver, OfChoices}
-use Rattle.combinator.proofs.Walks.{walk_alike}
+use Rattle.combinator.proofs.Joined.{walk_alike}
 use Rattle.combinator.proofs.Alike.{kinds_alike, ends_alike, total_alike}
 use Rattle.combinator.proofs.Choices.{heads_alike, of_group}
 use Rattle.combinator.proofs.Prefix.{both_groups, over_all}

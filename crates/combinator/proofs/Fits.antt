@@ -9,7 +9,7 @@ use Rattle.path_verifier.specs.Walk.{hops_of, left_by, walk_of}
 use Rattle.path_verifier.proofs.Hops.{length_left_by}
 use Rattle.combinator.specs.inner.Group.{GroupValue}
 use Rattle.combinator.specs.inner.Over.{AreGrouped}
-use Rattle.combinator.proofs.Walks.{left_left, left_append}
+use Rattle.combinator.proofs.Joined.{left_left, left_append}
 use Rattle.combinator.proofs.Longer.{walk_push}
 
 take_over : {A : Type 0} (xs ys : List A) (k : ℕ) → take (length xs + k) (xs ++ ys) ≡ xs ++ take k ys

@@ -22,18 +22,18 @@ all_taken P (suc n) [] all = tt
 all_taken P (suc n) (x ∷ xs) all = (all.0, all_taken P n xs all.1)
 
 -- the list with the element at a place, by recursion
-abbrev put : {X : Type 0} → List X → ℕ → X → List X
+abbrev pub put : {X : Type 0} → List X → ℕ → X → List X
 put xs zero x = x ∷ xs
 put [] (suc p) x = x ∷ []
 put (y ∷ ys) (suc p) x = y ∷ put ys p x
 
-put_insert : {X : Type 0} (xs : List X) (p : ℕ) (x : X) → insert xs p x ≡ put xs p x
+pub put_insert : {X : Type 0} (xs : List X) (p : ℕ) (x : X) → insert xs p x ≡ put xs p x
 put_insert [] zero x = refl
 put_insert [] (suc p) x = refl
 put_insert (y ∷ ys) zero x = refl
 put_insert (y ∷ ys) (suc p) x = ap (λ zs. y ∷ zs) (put_insert ys p x)
 
-length_put : {X : Type 0} (xs : List X) (p : ℕ) (x : X) → length (put xs p x) ≡ length xs + 1
+pub length_put : {X : Type 0} (xs : List X) (p : ℕ) (x : X) → length (put xs p x) ≡ length xs + 1
 length_put [] zero x = refl
 length_put [] (suc p) x = refl
 length_put (y ∷ ys) zero x = omega arith

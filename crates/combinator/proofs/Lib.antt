@@ -24,7 +24,7 @@ pub mod Rivals
 pub mod Settled
 pub mod Choosing
 pub mod Preferring
-pub mod Walks
+pub mod Joined
 pub mod Alike
 pub mod Fields
 pub mod Choices
@@ -44,3 +44,6 @@ pub mod Parts
 pub mod Going
 pub mod Passing
 pub mod Wanted
+pub mod Listing
+pub mod Stepping
+pub mod Gathered

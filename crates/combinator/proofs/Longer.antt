@@ -12,7 +12,7 @@ use Rattle.path_verifier.specs.Accepted.{DoEndIn, MakesPath}
 use Rattle.path_verifier.proofs.Course.{ases, joined_none, walk_ends, path_ends}
 use Rattle.path_verifier.proofs.Hops.{length_left_by, length_hops_of}
 use Rattle.path_verifier.proofs.TurnedCounts.{long_of}
-use Rattle.combinator.proofs.Walks.{closed, left_left, left_append, entered_front, length_closed}
+use Rattle.combinator.proofs.Joined.{closed, left_left, left_append, entered_front, length_closed}
 use Rattle.combinator.proofs.Prefix.{fold_append, walk_prefix}
 
 longer_with : (walk hops : List WalkHop) → length walk ≤ length (walk_with walk hops)

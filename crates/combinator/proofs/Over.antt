@@ -22,7 +22,7 @@ use Rattle.combinator.proofs.Settled.{met_by_best}
 use Rattle.combinator.specs.inner.Alike.{IsUsable, AreAlike}
 use Rattle.combinator.specs.inner.Group.{heads_of, GroupValue, IsGroup, AreOf, IsBestOf}
 use Rattle.combinator.specs.inner.Over.{AreGrouped, OfEachOver, OfChoices, AreLiveGroups, AreOwnGroups}
-use Rattle.combinator.proofs.Walks.{walk_alike}
+use Rattle.combinator.proofs.Joined.{walk_alike}
 use Rattle.combinator.proofs.Alike.{begins_alike, ends_alike, accepted_alike, total_alike}
 use Rattle.combinator.proofs.Choices.{heads_alike, of_group, best_of, chosen_of, choices_alike, usable_there}
 
@@ -81,6 +81,21 @@ own_there question (group ∷ groups) (piece ∷ pieces) own of =
 abbrev pub path_of : List PieceValue → PathValue
 path_of pieces = path_with pieces (header_of pieces)
 
+-- where a choice is a candidate, each other one is
+pub each_candidate : (question : Question) (groups : List GroupValue) → AllByRecursion IsGroup groups
+    → AreLiveGroups question.set.moment groups → AreOwnGroups question groups
+    → (others : List PieceValue) → AreOf groups others
+    → (pieces : List PieceValue) (header : HeaderValue) → AreOf groups pieces
+    → IsCandidate question (path_with pieces header) → IsCandidate question (path_of others)
+each_candidate question groups are live own others of_others pieces header of candidate = record {
+  own = own_there question groups others own of_others;
+  accepted = accepted_alike pieces others question.src question.dst question.set.moment question.rules
+      (usable_there groups others are of_others) (choices_alike groups pieces others are of of_others)
+      (live_there question.set.moment groups others live of_others)
+      (subst (λ (h : HeaderValue). IsAccepted (request_of pieces h question.src question.dst question.set.moment question.rules))
+      (header_kept candidate.accepted) candidate.accepted);
+}
+
 module _ (question : Question) (groups : List GroupValue) (are : AllByRecursion IsGroup groups)
     (live : AreLiveGroups question.set.moment groups) (own : AreOwnGroups question groups)
     (best : List PieceValue) (is_best : IsBestOf groups best) where
@@ -90,14 +105,7 @@ module _ (question : Question) (groups : List GroupValue) (are : AllByRecursion 
   -- where a choice is a candidate, the best choice is one
   pub candidate_too : (pieces : List PieceValue) (header : HeaderValue) → AreOf groups pieces
       → IsCandidate question (path_with pieces header) → IsCandidate question (path_of best)
-  candidate_too pieces header of candidate = record {
-    own = own_there question groups best own best_is_of;
-    accepted = accepted_alike pieces best question.src question.dst question.set.moment question.rules
-        (usable_there groups best are best_is_of) (choices_alike groups pieces best are of best_is_of)
-        (live_there question.set.moment groups best live best_is_of)
-        (subst (λ (h : HeaderValue). IsAccepted (request_of pieces h question.src question.dst question.set.moment question.rules))
-        (header_kept candidate.accepted) candidate.accepted);
-  }
+  candidate_too = each_candidate question groups are live own best best_is_of
 
   one_walk : (pieces : List PieceValue) → AreOf groups pieces → walk_of pieces ≡ walk_of best
   one_walk pieces of = walk_alike pieces best (choices_alike groups pieces best are of best_is_of)

@@ -12,7 +12,7 @@ use Rattle.combinator.specs.inner.Search.{AreBefore, IsMetBy, StillMeet}
 use Rattle.combinator.proofs.Alike.{ends_alike}
 use Rattle.combinator.proofs.Before.{met_later}
 use Rattle.combinator.proofs.Choices.{of_group}
-use Rattle.combinator.proofs.Facts.{kinds_apart, met_where_none, none_behind_end, split_of}
+use Rattle.combinator.proofs.Facts.{HaveNoCandidate, kinds_apart, none_behind_end, split_of}
 use Rattle.combinator.proofs.Prefix.{both_groups, over_all}
 use Rattle.combinator.proofs.Tried.{ends_with, met_on, one_end}
 use Rattle.combinator.proofs.Trying.{WasTriedOver}
@@ -36,33 +36,38 @@ module _ (P : List GroupValue → Type 0) (groups : List GroupValue) (are : All 
   each_tried all depth at = λ begins.
       (all [] tt, each_longer (λ next later also. all (next ∷ later) also) depth (ends_in group.head))
 
-module _ (question : Question) (limit : ℕ) (paths : List PathValue) (groups : List GroupValue) (are : All IsGroup groups)
+-- a fact that holds of the choices from groups that have no candidate
+abbrev pub HoldsWithout : Question → (List PieceValue → Type 0) → Type 0
+HoldsWithout question fact = (groups : List GroupValue) → HaveNoCandidate question groups → OfChoices fact groups
+
+module _ (question : Question) (fact : List PieceValue → Type 0) (without : HoldsWithout question fact)
+    (groups : List GroupValue) (are : All IsGroup groups)
     (front : List GroupValue) (group : GroupValue) (front_are : AllByRecursion IsGroup front) (is : IsGroup group) where
   -- a group of a kind that may not follow
   pub barred : (before : List GroupValue) (last : GroupValue) → front ≡ before ++ last ∷ []
       → ¬ (MayAdjoin (kind_of last.head) (kind_of group.head))
-      → (depth at : ℕ) → WasTriedOver (OfChoices (IsMetBy question limit paths)) groups depth front at group
+      → (depth at : ℕ) → WasTriedOver (OfChoices fact) groups depth front at group
   barred before last ends never =
-      each_tried (OfChoices (IsMetBy question limit paths)) groups are front group
+      each_tried (OfChoices fact) groups are front group
       (λ later also.
       let same : front ++ group ∷ later ≡ before ++ last ∷ group ∷ later =
       ap (λ (gs : List GroupValue). gs ++ group ∷ later) ends ∙ append_assoc before (last ∷ []) (group ∷ later) in
-      subst (OfChoices (IsMetBy question limit paths)) (sym same)
-      (met_where_none question limit paths (before ++ last ∷ group ∷ later)
+      subst (OfChoices fact) (sym same)
+      (without (before ++ last ∷ group ∷ later)
       (kinds_apart question before later last group
       (subst (AllByRecursion IsGroup) same (both_groups front (group ∷ later) front_are (is, also))) never)))
 
   -- lists that go on from the destination
-  pub met_behind_end : ends_in group.head ≡ question.dst → (depth at : ℕ)
-      → OfEachOver (OfChoices (IsMetBy question limit paths)) groups depth (front ++ group ∷ []) at
-  met_behind_end ends =
-      each_longer (OfChoices (IsMetBy question limit paths)) groups are front group
-      (λ next later also. met_where_none question limit paths (front ++ group ∷ next ∷ later)
+  pub behind_end : ends_in group.head ≡ question.dst → (depth at : ℕ)
+      → OfEachOver (OfChoices fact) groups depth (front ++ group ∷ []) at
+  behind_end ends =
+      each_longer (OfChoices fact) groups are front group
+      (λ next later also. without (front ++ group ∷ next ∷ later)
       (none_behind_end question front later group next is ends))
 
   -- a list that ends elsewhere
-  pub met_elsewhere : ¬ (ends_in group.head ≡ question.dst) → OfChoices (IsMetBy question limit paths) (front ++ group ∷ [])
-  met_elsewhere apart = met_where_none question limit paths (front ++ group ∷ []) (λ pieces of header candidate.
+  pub elsewhere : ¬ (ends_in group.head ≡ question.dst) → OfChoices fact (front ++ group ∷ [])
+  elsewhere apart = without (front ++ group ∷ []) (λ pieces of header candidate.
       let parts = split_of front (group ∷ []) pieces of in
       at parts.0 parts.1 parts.4
       (subst (DoEndIn question.dst) parts.2 (path_kept candidate.accepted).destination))
@@ -75,6 +80,8 @@ module _ (question : Question) (limit : ℕ) (paths : List PathValue) (groups : 
           ∙ one_end (ps ++ piece ∷ []) (ends_in piece) question.dst (ends_with ps piece) ends)
       at ps (piece ∷ next ∷ qs) of ends = of.1
 
+module _ (question : Question) (limit : ℕ) (paths : List PathValue) (groups : List GroupValue) (are : All IsGroup groups)
+    (front : List GroupValue) (group : GroupValue) (front_are : AllByRecursion IsGroup front) (is : IsGroup group) where
   -- lists that come behind all kept paths
   module _ (further : ℕ) (before : OfChoices (λ pieces. AreBefore limit paths pieces further) (front ++ group ∷ [])) where
     met_behind : (later : List GroupValue) → further ≤ length later → OfChoices (IsMetBy question limit paths) (front ++ group ∷ later)

@@ -10,7 +10,7 @@ use Rattle.combinator.specs.Candidate.{Question, PathValue}
 use Rattle.combinator.specs.inner.Search.{IsNoBetter}
 use Rattle.combinator.specs.inner.Group.{heads_of, GroupValue, IsGroup}
 use Rattle.combinator.specs.inner.Over.{OfEachOver, OfChoices}
-use Rattle.combinator.proofs.Walks.{closed, closed_left, left_left, left_append, entered_front, walk_alike}
+use Rattle.combinator.proofs.Joined.{closed, closed_left, left_left, left_append, entered_front, walk_alike}
 use Rattle.combinator.proofs.Choices.{heads_alike}
 use Rattle.combinator.proofs.Over.{group_there}
 

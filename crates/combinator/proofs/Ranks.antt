@@ -19,6 +19,9 @@ hop_total =
     then_total (on_total (λ (hop : WalkHop). hop.ia) nat_cmp_total)
     (then_total (on_total (λ (hop : WalkHop). hop.ingress) nat_cmp_total) (on_total (λ (hop : WalkHop). hop.egress) nat_cmp_total))
 
+pub walk_total : IsTotalOrder walk_cmp
+walk_total = lists_total hop_total
+
 pub bytes_total : IsTotalOrder bytes_cmp
 unfolding bytes_cmp
 bytes_total = on_total (λ (header : HeaderValue). spelling header) nat_list_cmp_total
@@ -27,7 +30,7 @@ pub shown_total : IsTotalOrder shown_cmp
 unfolding shown_cmp
 shown_total =
     then_total (on_total (λ (s : HeaderValue × List WalkHop). length s.0.hops) nat_cmp_total)
-    (then_total (on_total (λ (s : HeaderValue × List WalkHop). s.0) bytes_total) (on_total (λ (s : HeaderValue × List WalkHop). s.1) (lists_total hop_total)))
+    (then_total (on_total (λ (s : HeaderValue × List WalkHop). s.0) bytes_total) (on_total (λ (s : HeaderValue × List WalkHop). s.1) walk_total))
 
 pub path_total : IsTotalOrder path_cmp
 path_total = on_total header_and_walk shown_total
@@ -65,7 +68,7 @@ same_walk (hop ∷ one) (next ∷ other) e =
 
 -- headers of the grammar with the same bytes are one
 pub walk_itself : (one other : List WalkHop) → one ≡ other → walk_cmp one other ≡ Equal
-walk_itself one other same = ap (walk_cmp one) (sym same) ∙ tied_itself (lists_total hop_total) one
+walk_itself one other same = ap (walk_cmp one) (sym same) ∙ tied_itself walk_total one
 
 pub same_header : (one other : HeaderValue) → SpellsHeader (spelling one) one
     → SpellsHeader (spelling other) other → bytes_cmp one other ≡ Equal → one ≡ other

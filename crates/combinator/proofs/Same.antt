@@ -12,7 +12,7 @@ use Rattle.path_verifier.proofs.Entries.{length_travelled}
 use Rattle.path_verifier.proofs.Hops.{length_hops_of}
 use Rattle.combinator.specs.inner.Alike.{AreAlike, AreSameHops}
 use Rattle.combinator.proofs.Collected.{take_past}
-use Rattle.combinator.proofs.Walks.{closed, closed_of}
+use Rattle.combinator.proofs.Joined.{closed, closed_of}
 
 abbrev hop_at : ℕ → ℕ → ℕ → WalkHop
 hop_at ia ingress egress = record { ia = ia; ingress = ingress; egress = egress }

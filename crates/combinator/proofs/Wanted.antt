@@ -22,14 +22,14 @@ use Rattle.combinator.specs.inner.Over.{OfChoices, OfEachOver}
 use Rattle.combinator.proofs.Alike.{path_alike}
 use Rattle.combinator.proofs.Answering.{of_candidate}
 use Rattle.combinator.proofs.Asked.{candidate_of_parts}
-use Rattle.combinator.proofs.Choices.{choices_alike, usable_there}
+use Rattle.combinator.proofs.Choices.{choices_alike, heads_there, usable_there}
 use Rattle.combinator.proofs.Facts.{HaveNoCandidate, kinds_apart, none_behind_end}
 use Rattle.combinator.proofs.Over.{group_there, live_there, own_there, path_of, to_pieces}
 use Rattle.combinator.proofs.Prefix.{both_groups, over_all}
 use Rattle.combinator.proofs.Passing.{each_longer, each_tried}
 use Rattle.combinator.proofs.Tried.{ends_with, one_end}
 use Rattle.combinator.proofs.Trying.{WasTriedOver, for_more, tried_here}
-use Rattle.combinator.proofs.Walks.{walk_alike}
+use Rattle.combinator.proofs.Joined.{walk_alike}
 
 -- ---- the order of options
 
@@ -138,10 +138,6 @@ pub within_of : (under : WeighedRules → Question) (options : List WeighedRules
     → IfSome best (λ place. place < length options)
 within_of under options None leaves = tt
 within_of under options (Some place) leaves = slice_get_within options place leaves.option leaves.there
-
-heads_there : (groups : List GroupValue) → AllByRecursion IsGroup groups → AreOf groups (heads_of groups)
-heads_there [] are = tt
-heads_there (group ∷ groups) are = (are.0.there, heads_there groups are.1)
 
 module _ (set : Selection) (src dst : ℕ) (options : List WeighedRules) where
   -- no option that goes before the best one has a candidate among these choices

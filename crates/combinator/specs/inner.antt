@@ -8,3 +8,4 @@ pub mod Group
 pub mod Words
 pub mod Front
 pub mod Over
+pub mod Gathered

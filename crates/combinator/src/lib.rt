@@ -27,6 +27,7 @@ mod request;
 mod search;
 mod usable_piece;
 mod usable_pieces;
+mod walks;
 
 pub use answer::{Paths, paths_between};
 pub use choice::{Choice, paths_with};
@@ -35,3 +36,4 @@ pub use fault::{CombineError, CombineFault};
 pub use limit::{BAD_LIMIT, MAX_PATHS, is_limit};
 pub use path::{Path, PathList};
 pub use path_verifier::OwnedPiece;
+pub use walks::{Walks, walks_between};

@@ -1,5 +1,7 @@
+pub mod Placing
+pub mod Cutting
+pub mod Surviving
+pub mod Reporting
 pub mod Opening
-pub mod Marking
-pub mod Needing
 pub mod Adding
 pub mod Ranking

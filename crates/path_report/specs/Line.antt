@@ -1,5 +1,5 @@
 -- The line of a pair of ASes.
-use Rattle.std.specs.Prelude.{ℕ, codes, Bool, true, false, List, [], ◌++◌, flat_map, length, Option, Some, None}
+use Rattle.std.specs.Prelude.{ℕ, zero, suc, ◌==◌, codes, Bool, true, false, List, [], ◌++◌, flat_map, length, Option, Some, None}
 use Rattle.std.specs.Fmt.{decimal}
 use Rattle.isd_as.specs.Address.{canonical}
 use Rattle.scion_topology.specs.declared.network.End.{End}
@@ -20,27 +20,28 @@ unfoldable pub more_text : Bool → List ℕ
 more_text true = codes "+"
 more_text false = []
 
--- what is said of the best path, and how many pairs of paths share no link
-unfoldable pub best_text : BestPath → (apart : ℕ) (is_full : Bool) → List ℕ
-best_text best apart is_full =
-    codes " hops " ++ (decimal best.hops ++ (codes " until " ++ (decimal best.last
-    ++ (codes " disjoint " ++ (decimal apart ++ more_text is_full)))))
+-- what is said of the best path
+unfoldable pub best_text : Option BestPath → List ℕ
+best_text None = codes " hops unknown until unknown"
+best_text (Some best) =
+    codes " hops " ++ (decimal best.hops ++ (codes " until " ++ decimal best.last))
 
--- the links that the paths need, with their number
-unfoldable pub needed_text : (is_full : Bool) → List Link → List ℕ
-needed_text true needed = codes " needs unknown"
-needed_text false needed = codes " needs " ++ (decimal (length needed)
-    ++ flat_map (λ link. codes " " ++ link_name link) needed)
+-- how many links may be lost, and the links that the paths need, with their number
+unfoldable pub needed_text : (is_full : Bool) → PairValue → List ℕ
+needed_text true report = codes " survives unknown needs unknown"
+needed_text false report =
+    codes " survives " ++ (decimal report.survives ++ (more_text (report.survives == 3)
+    ++ (codes " needs " ++ (decimal (length report.needed)
+    ++ flat_map (λ link. codes " " ++ link_name link) report.needed))))
 
 -- what is said of the paths, if there are some
-abbrev pub paths_text : Option BestPath → PairValue → List ℕ
-paths_text None report = []
-paths_text (Some best) report =
-    best_text best report.apart report.is_full ++ needed_text report.is_full report.needed
+abbrev pub paths_text : (paths : ℕ) → PairValue → List ℕ
+paths_text zero report = []
+paths_text (suc paths) report = best_text report.best ++ needed_text report.is_full report
 
 -- the line of a pair: its ASes, the number of its paths, and what is said of them
 unfoldable pub pair_line : PairValue → List ℕ
 pair_line report =
     canonical report.pair.from ++ (codes " " ++ (canonical report.pair.to
     ++ (codes " paths " ++ (decimal report.paths ++ (more_text report.is_full
-    ++ (paths_text report.best report ++ codes "\n"))))))
+    ++ (paths_text report.paths report ++ codes "\n"))))))

@@ -1,14 +1,14 @@
 //! The best open path.
 
-ghost use Rattle.std.specs.Prelude.{◌≡◌};
+ghost use Rattle.std.specs.Prelude.{IfOk};
 ghost use Rattle.path_report.specs.Paths.{open_paths};
-ghost use Rattle.path_report.specs.Pair.{TellsBest, TellsPath};
+ghost use Rattle.path_report.specs.Pair.{TellsFirst, TellsPath};
 
-use crate::open_path::is_open;
+use crate::open_walk::is_open;
 use combinator::Paths;
 use path_verifier::VerifiedPath;
-use scion_topology::Link;
-use std::alloc::Global;
+use scion_topology::Topology;
+use std::alloc::{AllocError, Global};
 
 /// What is said of a path.
 #[derive(Clone, Copy)]
@@ -30,16 +30,21 @@ fn best_path(path: &VerifiedPath<'_, '_, Global>) -> BestPath
 }
 
 /// What is said of the first path whose links are all up, if there is one.
-pub(crate) fn best_of(links: &[Link], paths: &Paths<'_, '_, Global>) -> Option<BestPath>
-    ensures { TellsBest (open_paths links.now paths.now) result }
+pub(crate) fn first_open(
+    alloc: Global,
+    topology: &Topology,
+    paths: &Paths<'_, '_, Global>,
+) -> Result<Option<BestPath>, AllocError>
+    ensures { IfOk result (TellsFirst (open_paths topology.now.links paths.now)) }
 {
     for place in 0..paths.len() {
         let Some(path) = paths.get(place) else {
             unreachable!()
         };
-        if is_open(links, path.walk()) {
-            return Some(best_path(path));
+        let is_up = is_open(alloc, topology, path.walk())?;
+        if is_up {
+            return Ok(Some(best_path(path)));
         }
     }
-    None
+    Ok(None)
 }

@@ -1,18 +1,18 @@
 //! What paths a network has between its ASes, and which links they need, as text.
 //!
 //! A path is open if none of the links that it crosses is down. For each pair of ASes a line has
-//! the number of open paths, what is said of the best of them, how many pairs of them share no
-//! link, and the links without which the ASes have no open path. The last lines are the links that
-//! most pairs need.
+//! the number of open paths, what is said of the best of them, how many links may be lost before no
+//! path is left, and the links without which the ASes have no open path. The last lines are the links
+//! that most pairs need.
 #![tactic(auto)]
 
-mod apart;
 mod best;
 mod line;
 mod needed;
-mod open_path;
+mod open_walk;
 mod pair;
 mod report;
 mod summary;
+mod survival;
 
 pub use report::{MAX_RANKED_LINKS, ReportOptions, path_report};

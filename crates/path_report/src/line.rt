@@ -7,6 +7,7 @@ ghost use Rattle.path_report.specs.Line.{best_text, link_name, more_text, needed
 
 use crate::best::BestPath;
 use crate::pair::PairReport;
+use crate::survival::MAX_LOST;
 use scion_topology::Link;
 use std::alloc::AllocError;
 use std::fmt::Write;
@@ -26,18 +27,14 @@ pub(crate) fn add_link(text: &mut String, link: &Link) -> Result<(), AllocError>
     write!(text, "{}#{}~{}#{}", a.ia, a.number, b.ia, b.number)
 }
 
-/// Adds what is said of the best path, and how many pairs of paths share no link.
-fn add_best(
-    text: &mut String,
-    best: BestPath,
-    apart: usize,
-    is_full: bool,
-) -> Result<(), AllocError>
-    ensures { OnOk result
-        (string_bytes text.new ≡ string_bytes text.old ++ best_text best apart is_full) }
+/// Adds what is said of the best path.
+fn add_best(text: &mut String, best: Option<BestPath>) -> Result<(), AllocError>
+    ensures { OnOk result (string_bytes text.new ≡ string_bytes text.old ++ best_text best) }
 {
-    let (hops, last, more) = (best.hops, best.last, more_text(is_full));
-    write!(text, " hops {hops} until {last} disjoint {apart}{more}")
+    match best {
+        Some(BestPath { hops, last }) => write!(text, " hops {hops} until {last}"),
+        None => text.push_str(" hops unknown until unknown"),
+    }
 }
 
 /// Adds links, with a space before each.
@@ -52,29 +49,30 @@ fn add_links(text: &mut String, links: &[Link]) -> Result<(), AllocError>
     Ok(())
 }
 
-/// Adds the links that the paths need, with their number.
-fn add_needed(text: &mut String, is_full: bool, needed: &[Link]) -> Result<(), AllocError>
-    ensures { OnOk result
-        (string_bytes text.new ≡ string_bytes text.old ++ needed_text is_full needed.now) }
+/// Adds how many links may be lost, and the links that the paths need, with their number.
+fn add_needed(text: &mut String, report: &PairReport) -> Result<(), AllocError>
+    ensures { OnOk result (string_bytes text.new
+        ≡ string_bytes text.old ++ needed_text report.now.is_full report.now) }
 {
-    if is_full {
-        return text.push_str(" needs unknown");
+    if report.is_full {
+        return text.push_str(" survives unknown needs unknown");
     }
-    let count = needed.len();
-    write!(text, " needs {count}")?;
-    add_links(text, needed)
+    let (survives, count) = (report.survives, report.needed.len());
+    let more = more_text(survives == MAX_LOST);
+    write!(text, " survives {survives}{more} needs {count}")?;
+    add_links(text, &report.needed)
 }
 
 /// Adds what is said of the paths, if there are some.
 fn add_paths(text: &mut String, report: &PairReport) -> Result<(), AllocError>
     ensures { OnOk result (string_bytes text.new
-        ≡ string_bytes text.old ++ paths_text report.now.best report.now) }
+        ≡ string_bytes text.old ++ paths_text report.now.paths report.now) }
 {
-    let Some(best) = report.best else {
+    if report.paths == 0 {
         return Ok(());
-    };
-    add_best(text, best, report.apart, report.is_full)?;
-    add_needed(text, report.is_full, &report.needed)
+    }
+    add_best(text, report.best)?;
+    add_needed(text, report)
 }
 
 /// Adds the line of a pair.

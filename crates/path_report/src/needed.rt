@@ -1,57 +1,42 @@
-//! The links that all open paths cross.
+//! The links that all open walks cross.
 
-ghost use Rattle.std.specs.Prelude.{◌≡◌, IfOk, filter, map};
-ghost use Rattle.path_report.specs.Paths.{crosses};
-ghost use Rattle.path_report.specs.inner.Needed.{do_cross, needed_links};
+ghost use Rattle.std.specs.Prelude.{◌≡◌, All, IfOk, filter, map};
+ghost use Rattle.std.specs.List.{list_all};
+ghost use Rattle.path_report.specs.inner.Cuts.{crosses_at};
+ghost use Rattle.path_report.specs.inner.Needed.{is_crossed};
+ghost use Rattle.path_report.specs.inner.Places.{HasPlaces};
 
-use crate::open_path::OpenPath;
-use network_view::was_passed;
-use scion_topology::Link;
+use crate::open_walk::OpenWalk;
+use crate::survival::crosses_at;
+use scion_topology::{Link, Topology};
 use std::alloc::{AllocError, Global};
 
-/// Whether the path crosses the link.
-fn crosses(path: &OpenPath, link: &Link) -> bool
-    ensures { result ≡ crosses path.now.walk.items link.now }
+/// Whether all walks cross the link at a place.
+fn do_cross(walks: &[OpenWalk<'_>], place: usize) -> bool
+    ensures { result ≡ list_all (crosses_at place) walks.now }
 {
-    was_passed(&path.walk, link)
+    walks.iter().all(|walk| crosses_at(walk, place))
 }
 
-/// Whether all paths cross the link.
-fn do_cross(paths: &[OpenPath], link: &Link) -> bool
-    ensures { result ≡ do_cross paths.now link.now }
-{
-    paths.iter().all(|path| crosses(path, link))
-}
-
-/// The links that all paths cross, in the order of the list.
+/// The links that all walks cross, in the order of the topology.
 ///
-/// It takes the time of each link, for each hop of the first path; and of the links found, for each
-/// hop of each path.
-fn links_crossed(alloc: Global, links: &[Link], paths: &[OpenPath]) -> Result<Vec<Link>, AllocError>
-    ensures { IfOk result (λ found. found.items ≡ filter (do_cross paths.now) links.now) }
+/// It takes the time of each link, for each link of the first walk; and of the links found, for each
+/// link of each walk.
+pub(crate) fn needed_links(
+    alloc: Global,
+    topology: &Topology,
+    walks: &[OpenWalk<'_>],
+) -> Result<Vec<Link>, AllocError>
+    requires { All (HasPlaces topology.now.links) walks.now }
+    ensures { IfOk result (λ found. found.items
+        ≡ filter (is_crossed (map (λ walk. walk.hops.now) walks.now)) topology.now.links) }
 {
+    topology.known();
     let mut found = Vec::new(alloc);
-    for link in links {
-        if do_cross(paths, link) {
+    for (place, link) in topology.links().iter().enumerate() {
+        if do_cross(walks, place) {
             found.push(*link)?;
         }
     }
     Ok(found)
-}
-
-/// The links that all paths cross; none if there is no path, or if there may be more paths.
-pub(crate) fn needed_links(
-    alloc: Global,
-    links: &[Link],
-    paths: &[OpenPath],
-    is_full: bool,
-) -> Result<Vec<Link>, AllocError>
-    ensures { IfOk result (λ found. found.items
-        ≡ needed_links links.now is_full (map (λ path. path.walk.items) paths.now)) }
-{
-    if is_full || paths.is_empty() {
-        Ok(Vec::new(alloc))
-    } else {
-        links_crossed(alloc, links, paths)
-    }
 }

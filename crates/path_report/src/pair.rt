@@ -1,17 +1,18 @@
 //! What is said of the paths between two ASes.
 
-ghost use Rattle.std.specs.Prelude.{◌≡◌, ◌≤◌, IfOk, length};
-ghost use Rattle.path_report.specs.Pair.{IsPairReport};
-ghost use Rattle.path_report.specs.inner.Answer.{TellsAnswer};
+ghost use Rattle.std.specs.Prelude.{◌≡◌, ◌<◌, ◌≤◌, [], IfOk};
+ghost use Rattle.path_server.specs.Lookup.{segments_for};
+ghost use Rattle.path_report.specs.Pair.{IsPairReport, TellsBest, question_between};
 
-use crate::apart::apart_pairs;
-use crate::best::{BestPath, best_of};
+use crate::best::{BestPath, first_open};
 use crate::needed::needed_links;
-use crate::open_path::open_paths;
+use crate::open_walk::open_walks;
 use crate::report::ReportOptions;
-use combinator::{Paths, paths_between};
+use crate::survival::losses_survived;
+use combinator::{paths_between, walks_between};
 use isd_as::IsdAs;
 use network_core::Net;
+use path_server::SegmentSet;
 use scion_topology::Link;
 use std::alloc::{AllocError, Global};
 use std::marker::Model;
@@ -29,15 +30,17 @@ pub(crate) struct AsPair {
 #[derive(Drop)]
 pub(crate) struct PairReport {
     pub(crate) pair: AsPair,
-    /// Whether as many paths were found as were looked for, so that there may be more.
+    /// Whether as many walks were found as were looked for, so that there may be more.
     pub(crate) is_full: bool,
-    /// The number of paths whose links are all up.
+    /// The number of walks whose links are all up.
     pub(crate) paths: usize,
-    /// The first of them.
+    /// The best path whose links are all up.
     pub(crate) best: Option<BestPath>,
-    /// How many pairs of them share no link.
-    pub(crate) apart: usize,
-    /// The links that all of them cross; none if there is no such path, or if there may be more.
+    /// The most links, up to 3, whose loss always leaves an open walk; 0 if there is none, or if
+    /// there may be more walks.
+    pub(crate) survives: usize,
+    /// The links that all open walks cross; none if there is no such walk, or if there may be more
+    /// walks.
     pub(crate) needed: Vec<Link>,
 }
 
@@ -51,34 +54,64 @@ impl Model for PairReport {
       is_full = r.is_full;
       paths = r.paths;
       best = r.best;
-      apart = r.apart;
+      survives = r.survives;
       needed = r.needed.items;
     } };
 }
 
-/// What is said of an answer with at most `limit` paths.
-fn report_of(
+/// What is said of the best path of a pair whose links are all up: of the first of them in the
+/// answer to a request for `some` paths, or for twice as many, and so on up to the limit. An answer
+/// with fewer paths is the last.
+///
+/// It takes at most twice the time of the last request.
+fn best_between(
     alloc: Global,
-    links: &[Link],
+    net: &Net,
+    wanted: &ReportOptions<'_>,
+    set: &SegmentSet,
     pair: AsPair,
-    paths: &Paths<'_, '_, Global>,
-    limit: usize,
-) -> Result<PairReport, AllocError>
-    requires { length paths.now ≤ 65535 }
-    ensures { IfOk result (TellsAnswer links.now pair paths.now limit) }
+    some: usize,
+) -> Result<Option<BestPath>, AllocError>
+    requires set { set.now ≡ segments_for net.now.segments pair.from pair.to net.now.moment }
+    requires some { 0 < some }
+    requires few { some ≤ wanted.now.limit }
+    ensures { IfOk result (TellsBest net.now.network.links
+        (question_between net.now wanted.entry.now.rules pair) wanted.entry.now.limit) }
 {
-    let is_full = paths.len() == limit;
-    let open = open_paths(alloc, links, paths)?;
-    let needed = needed_links(alloc, links, &open, is_full)?;
-    let apart = apart_pairs(alloc, links, &open)?;
-    Ok(PairReport {
+    let limit = usize::from(wanted.limit);
+    let paths = paths_between(alloc, set, pair.from, pair.to, wanted.policy, some)?;
+    let best = first_open(alloc, net.topology(), &paths)?;
+    if best.is_some() || paths.len() < some || some == limit {
+        return Ok(best);
+    }
+    best_between(alloc, net, wanted, set, pair, limit.min(2 * some))
+}
+
+/// What is said of a pair with so many open walks, where no links are named.
+fn without_links(
+    alloc: Global,
+    pair: AsPair,
+    is_full: bool,
+    paths: usize,
+    best: Option<BestPath>,
+) -> PairReport
+    ensures { result ≡ record {
+      pair = pair;
+      is_full = is_full;
+      paths = paths;
+      best = best;
+      survives = 0;
+      needed = [];
+    } }
+{
+    PairReport {
         pair,
         is_full,
-        paths: open.len(),
-        best: best_of(links, paths),
-        apart,
-        needed,
-    })
+        paths,
+        best,
+        survives: 0,
+        needed: Vec::new(alloc),
+    }
 }
 
 /// What is said of the paths of a pair of ASes in a network, at its second.
@@ -92,9 +125,26 @@ pub(crate) fn pair_report(
         (IsPairReport net.now wanted.entry.now.rules wanted.entry.now.limit) }
     ensures pair { IfOk result (λ report. report.pair ≡ pair) }
 {
-    let (from, to) = (pair.from, pair.to);
-    let limit = usize::from(wanted.limit);
-    let set = net.store().segments_for(alloc, from, to, net.now())?;
-    let paths = paths_between(alloc, &set, from, to, wanted.policy, limit)?;
-    report_of(alloc, net.topology().links(), pair, &paths, limit)
+    let (topology, limit) = (net.topology(), usize::from(wanted.limit));
+    topology.known();
+    let set = net.store().segments_for(alloc, pair.from, pair.to, net.now())?;
+    let walks = walks_between(alloc, &set, pair.from, pair.to, wanted.policy, limit)?;
+    let open = open_walks(alloc, topology, &walks)?;
+    let is_full = walks.len() == limit;
+    let paths = open.len();
+    if paths == 0 {
+        return Ok(without_links(alloc, pair, is_full, paths, None));
+    }
+    let best = best_between(alloc, net, wanted, &set, pair, 1)?;
+    if is_full {
+        return Ok(without_links(alloc, pair, is_full, paths, best));
+    }
+    Ok(PairReport {
+        pair,
+        is_full,
+        paths,
+        best,
+        survives: losses_survived(alloc, &open)?,
+        needed: needed_links(alloc, topology, &open)?,
+    })
 }

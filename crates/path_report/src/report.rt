@@ -130,17 +130,20 @@ fn lines_of(alloc: Global, reports: &[PairReport]) -> Result<String, AllocError>
 /// The report of a network at its second: a line for each wanted pair of ASes, in the order of the
 /// topology, and a line for each of the links that most pairs need, at most [`MAX_RANKED_LINKS`].
 ///
-/// The line of a pair is `FROM TO paths N hops H until S disjoint D needs L LINK..`. Its N paths
-/// are those of the answer to a request with this limit whose links are all up. The first of them
-/// has H hops, which are all live up to second S; D pairs of them share no link, and all of them
-/// cross these L links. Without a path the line ends after `paths 0`. If the answer is as long as
-/// the limit, N and D are followed by `+`, and the line ends with `needs unknown`. The line of a
-/// link is `link LINK pairs N`.
+/// The line of a pair is `FROM TO paths N hops H until S survives K needs L LINK..`. Its N paths have
+/// different walks, whose links are all up. The best of them has H hops, which are all live up to
+/// second S. Whichever K links of the network are lost, one of the N walks is left, and of K + 1 this
+/// is not so; `3+` are at least 3. All of the walks cross these L links. Without a path the line ends
+/// after `paths 0`. If there are as many walks as the limit, there may be more: N is followed by `+`,
+/// and the line ends with `survives unknown needs unknown`. The best path is that of an answer with at
+/// most as many paths as the limit; H and S are `unknown` if there is none in it. The line of a link
+/// is `link LINK pairs N`.
 ///
-/// For each pair it takes the time of [`paths_between`](combinator::paths_between); that of each
-/// path, for each link of the topology and each hop; and that of two paths each, for each link that
-/// one of them crosses. The links at the end take the time of each link and each pair, for each
-/// link that the pair needs. The memory is that of the paths of one pair, and of the text.
+/// For each pair it takes the time of [`walks_between`](combinator::walks_between), and of each walk
+/// for a search of the link at each of its hops; that of [`paths_between`](combinator::paths_between)
+/// for one path, or twice that of those before the first whose links are up; and of the walks for
+/// each three links, each of one walk. The links at the end take the time of each link and each pair,
+/// for each link that the pair needs. The memory is that of the walks of one pair, and of the text.
 ///
 /// [`AllocError`] if memory runs out.
 pub fn path_report(

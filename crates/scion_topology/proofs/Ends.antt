@@ -1,18 +1,26 @@
 -- The two ends of a link: which is far, who owns them, and as what they see each other.
-use Rattle.std.proofs.Common.{◌≡◌, ℕ, ◌<◌, Bool, true, false, cond, eqb, not, List, [], ◌∷◌, Option, Some, None, Ok, refl, sym, ap, ◌∙◌, inl, inr, ◌⊎◌, ◌||◌, IfSome, IsSome}
-use Rattle.std.specs.List.{list_any, cons_option}
+use Rattle.std.proofs.Common.{◌≡◌, ℕ, zero, suc, ◌<◌, Bool, true, false, cond, eqb, not, List, [], ◌∷◌, get_or, Contains, Option, Some, None, Ok, refl, sym, ap, subst, ◌∙◌, inl, inr, ◌⊎◌, ◌||◌, IfSome, IsSome, arith}
+use Rattle.std.specs.List.{list_any, cons_option, position}
+use Rattle.std.specs.Prelude.{slice_get}
+use Rattle.std.specs.Result.{result_ok}
+use Rattle.std.proofs.lemmas.List.Elements.{Contains-get_or}
+use Rattle.std.proofs.lemmas.List.Quantifiers.{position-Some}
 use Rattle.std.proofs.lemmas.Bool.{cases_Bool, or_parts, or_cases, and_parts, and_from, or_left, or_right, not-false, eqb-true, eq-eqb, true≢false}
 use Rattle.scion_topology.specs.declared.entry.IfEntry.{IfEntry}
 use Rattle.scion_topology.specs.declared.fault.TopologyFault.TheVariants as faults
 use Rattle.scion_topology.specs.declared.network.AsEntry.{AsEntry}
+use Rattle.scion_topology.specs.declared.network.End.{End}
 use Rattle.scion_topology.specs.declared.network.Link.{Link}
 use Rattle.scion_topology.specs.declared.network.LinkClass.{LinkClass}
 use Rattle.scion_topology.specs.declared.network.LinkClass.TheVariants.{Core, Child}
 use Rattle.scion_topology.specs.Network.{Network, as_named, is_end, has_end, link_named, kind_at_a, kind_at_b, end_as_interface, interface_of, table_of, mirrored_kind, interface_in}
 use Rattle.scion_topology.specs.Causes.{is_listed, has_unknown_end, lacks_router, has_no_router, is_ill_joined, stands, joins_twice}
+use Rattle.scion_topology.specs.Rules.{IsLink}
+use Rattle.scion_topology.specs.inner.Index.{place_in}
 use Rattle.scion_topology.specs.Topology.{IsNetwork, known_as, known_link, near_end, far_end, far_end_in, owner_in}
 use Rattle.refusal.proofs.Steps.{bind_ok, ok_is, ok_or_ok}
-use Rattle.scion_topology.proofs.Judging.{IsFree-IsNetwork, listed_known, has_router}
+use Rattle.scion_topology.proofs.Judging.{IsFree-IsNetwork, are_named, listed_known, has_router}
+use Rattle.scion_topology.proofs.Tables.{position-cons}
 use Rattle.scion_topology.proofs.Places.{are_apart, is_numbered, ends_there, network_apart}
 
 -- a link that was found is in the list, and ends where it was looked for
@@ -279,3 +287,69 @@ shown_at n ia number link network found =
 pub near_is_shown : (n : Network) (ia number x m : ℕ) → IsNetwork n → far_end_in n ia number ≡ Ok (x, m) → IsSome (interface_in (table_of ia n.links) number)
 unfolding far_end_in
 near_is_shown n ia number x m network found = let at = bind_ok (known_link n ia number) _ (x, m) found in shown_at n ia number at.0 network at.1
+
+-- an AS in which a link ends is listed
+pub end_is_listed : (n : Network) (x m : ℕ) (link : Link) → IsNetwork n → Contains n.links link → has_end link x m ≡ true
+    → (one : AsEntry) × (as_named n.ases x ≡ Some one)
+end_is_listed n x m link network there ends =
+    let is : IsLink n.ases link = subst (IsLink n.ases) there.2 (network.links there.0 link there.1) in
+    let named = are_named n.ases link is network.once in
+    elim (or_cases (is_end link.a x m) (is_end link.b x m) ends) [
+      | inl side ↦ (is.one, ap (as_named n.ases) (sym (at_end link.a side)) ∙ named.a)
+      | inr side ↦ (is.other, ap (as_named n.ases) (sym (at_end link.b side)) ∙ named.b)
+    ]
+  where
+    at_end : (end : End) → is_end end x m ≡ true → end.ia ≡ x
+    at_end end side = eqb-true end.ia x (and_parts (eqb end.ia x) (eqb end.number m) side).0
+
+-- where an AS is not listed, no link ends in it
+pub place_found : (n : Network) → IsNetwork n → (ia number : ℕ)
+    → result_ok (place_in n ia number) ≡ position (λ link. has_end link ia number) n.links
+place_found n network ia number = of (as_named n.ases ia) refl n.links refl (position (λ link. has_end link ia number) n.links) refl
+  where
+    of : (named : Option AsEntry) → as_named n.ases ia ≡ named → (links : List Link) → links ≡ n.links
+        → (place : Option ℕ) → position (λ link. has_end link ia number) links ≡ place
+        → result_ok (place_in n ia number) ≡ position (λ link. has_end link ia number) n.links
+    of (Some one) is links all None at = rw (is, ap (position (λ link. has_end link ia number)) (sym all) ∙ at) refl
+    of (Some one) is links all (Some k) at = rw (is, ap (position (λ link. has_end link ia number)) (sym all) ∙ at) refl
+    of None is links all None at = rw (is, ap (position (λ link. has_end link ia number)) (sym all) ∙ at) refl
+    of None is [] all (Some k) at = absurd cc
+    of None is (first ∷ rest) all (Some k) at = absurd (
+        let found = position-Some (λ link. has_end link ia number) (first ∷ rest) k first at in
+        let one = end_is_listed n ia number (get_or (first ∷ rest) k first) network
+        (subst (λ (links : List Link). Contains links (get_or (first ∷ rest) k first)) all
+        (Contains-get_or (first ∷ rest) k first found.0)) found.1 in
+        let clash : None ≡ Some one.0 = sym is ∙ one.1 in
+        cc)
+
+some_ends : (links : List Link) (place : ℕ) (link : Link) (ia number : ℕ) → slice_get links place ≡ Some link
+    → has_end link ia number ≡ true → list_any (λ l. has_end l ia number) links ≡ true
+some_ends [] place link ia number is ends = absurd cc
+some_ends (one ∷ links) zero link ia number is ends =
+    let same : one ≡ link = cc in or_left (has_end one ia number) (list_any (λ l. has_end l ia number) links) (rw same ends)
+some_ends (one ∷ links) (suc place) link ia number is ends =
+    or_right (has_end one ia number) (list_any (λ l. has_end l ia number) links) (some_ends links place link ia number is ends)
+
+-- no link before one of the list ends at an interface of that one
+pub place_of_link : (links : List Link) → joins_twice links ≡ false → (place : ℕ) (link : Link) → slice_get links place ≡ Some link
+    → (ia number : ℕ) → has_end link ia number ≡ true → position (λ l. has_end l ia number) links ≡ Some place
+unfolding joins_twice
+place_of_link [] free place link is ia number ends = absurd cc
+place_of_link (first ∷ rest) free zero link is ia number ends =
+    let same : first ≡ link = cc in
+    let here : has_end first ia number ≡ true = rw same ends in
+    position-cons (λ l. has_end l ia number) first rest ∙ rw here refl
+place_of_link (first ∷ rest) free (suc place) link is ia number ends =
+    let once = or_parts (stands rest first.a) (stands rest first.b || joins_twice rest) free in
+    let later = or_parts (stands rest first.b) (joins_twice rest) once.1 in
+    elim (cases_Bool (has_end first ia number)) [
+      | inl here ↦ absurd (elim (ends_stand first rest ia number here (some_ends rest place link ia number is ends)) [
+          | inl at ↦ true≢false (sym at ∙ once.0)
+          | inr at ↦ true≢false (sym at ∙ later.0)
+        ])
+      | inr other ↦ position-cons (λ l. has_end l ia number) first rest ∙ rw (other, place_of_link rest later.1 place link is ia number ends) (ap Some (omega arith))
+    ]
+
+pub place_in_network : (n : Network) → IsNetwork n → (place : ℕ) (link : Link) → slice_get n.links place ≡ Some link
+    → (ia number : ℕ) → has_end link ia number ≡ true → position (λ l. has_end l ia number) n.links ≡ Some place
+place_in_network n network = place_of_link n.links (IsFree-IsNetwork n network).interfaces

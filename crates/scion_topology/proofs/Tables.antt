@@ -89,7 +89,7 @@ new_number place more table entry finds none has number =
 -- ---- what stands at a place
 
 -- the first one stands at the first place
-find-position : {A : Type 0} (p : A → Bool) (xs : List A) → find p xs ≡ option_and_then (slice_get xs) (position p xs)
+pub find-position : {A : Type 0} (p : A → Bool) (xs : List A) → find p xs ≡ option_and_then (slice_get xs) (position p xs)
 find-position p [] = refl
 find-position p (x ∷ xs) = elim (cases_Bool (p x)) [
   | inl here ↦ rw (position-cons p x xs, here) refl

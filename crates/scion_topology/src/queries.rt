@@ -1,5 +1,6 @@
 ghost use Rattle.std.specs.Prelude.{◌≡◌, ◌<◌, Some, None, IfOk, MatchResult, length};
-ghost use Rattle.scion_topology.specs.Network.{as_named};
+ghost use Rattle.std.specs.List.{position};
+ghost use Rattle.scion_topology.specs.Network.{as_named, has_end};
 ghost use Rattle.refusal.specs.Refusal.{Gives};
 ghost use Rattle.scion_topology.specs.Topology.{IsNetwork, known_as, known_link, info_in, interface_at, far_end_in, owner_in, view_in};
 ghost use Rattle.scion_topology.specs.Index.{value_of_index};
@@ -116,6 +117,15 @@ impl Topology {
     {
         // Reading a field makes the type's invariants known here.
         let _ = &self.links;
+    }
+
+    /// The place, in the list of links, of the link at an interface of an AS; `None` if no link is
+    /// there.
+    pub fn link_place(&self, ia: IsdAs, number: IfId) -> Option<usize>
+        ensures { result ≡ position (λ link. has_end link ia number) self.now.links }
+    {
+        self.known();
+        self.place(ia, number).ok()
     }
 
     /// An AS and its index.

@@ -13,13 +13,14 @@ use step_line::number;
 static REPORT_HELP: &str = "\
 Standard input has the lines of 'scionet run'. For each ordered pair of ASes of the network after \
 the last of them there is a line, in the order of the topology's list:
-  FROM TO paths N hops H until S disjoint D needs L LINK..
+  FROM TO paths N hops H until S survives K needs L LINK..
 N paths lead from FROM to TO at the network's second, keep the policy, and cross no link that is \
-down. The best of them has H hops and is live up to second S; D pairs of them share no link; and \
-each of them crosses these L links, so that no packet arrives by any path while one of them is \
-cut. A link is written by its two ends, as 'IA#IF~IA#IF'. Without a path the line ends after \
-'paths 0'. If there are as many paths as the limit, there may be more: N and D are then followed \
-by '+', and the line ends with 'needs unknown'.
+down. The best of them has H hops and is live up to second S. Whichever K links of the network are \
+lost, one of the paths is left; more than 3 links are not tried, so that '3+' is at least 3. Each \
+of the paths crosses these L links, so that no packet arrives by any path while one of them is cut. \
+A link is written by its two ends, as 'IA#IF~IA#IF'. Without a path the line ends after 'paths 0'. \
+If there are as many paths as the limit, there may be more: N is then followed by '+', and the line \
+ends with 'survives unknown needs unknown'.
 
 The last lines are 'link LINK pairs N', for at most 10 links: those that most pairs need.
 

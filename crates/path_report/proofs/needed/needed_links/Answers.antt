@@ -1,25 +1,25 @@
--- The links that all paths cross are those that all their walks cross.
-use Rattle.std.proofs.Common.{◌≡◌, List, [], length, map, sym, ap, ◌∙◌, true≢false}
-use Rattle.std.specs.Prelude.{◌==◌, filter}
-use Rattle.path_report.specs.declared.open_path.OpenPath.{OpenPath}
-use Rattle.path_report.specs.inner.Needed.{do_cross, needed_links}
-use Rattle.path_report.proofs.Needing.{crossed_by_paths, if_ok_more}
+-- One link more, which all walks cross or some don't.
+use Rattle.std.proofs.Common.{◌≡◌, ◌++◌, ◌∷◌, [], List, Bool, cond, rules, sym, ap, ◌∙◌, take, Some}
+use Rattle.std.specs.Prelude.{filter, map, slice_get}
+use Rattle.std.proofs.lemmas.Option.{slice_get-get_or}
+use Rattle.scion_topology.specs.declared.network.Link.{Link}
+use Rattle.path_report.specs.declared.open_walk.OpenWalk.{OpenWalk}
+use Rattle.path_report.specs.inner.Needed.{is_crossed}
+use Rattle.path_report.proofs.Opening.{filter_next}
+use Rattle.path_report.proofs.Placing.{all_cross}
 use Rattle.path_report.proofs.needed.needed_links.Goals as goal
-use Rattle.path_report.proofs.needed.needed_links.Goals.{then-is_full, else-is_full}
+use Rattle.path_report.proofs.needed.needed_links.Goals.{then-do_cross+in_ok-push, else-do_cross}
 
-pub returns-else-is_empty : goal.returns-else-is_empty
-returns-else-is_empty c =
-    let links = c.args.links.now in
-    let paths = c.args.paths.now in
-    elim c.if-is_full.branch [
-      | then-is_full w ↦ absurd (true≢false (sym w.if-is_full.true ∙ sym w.value-is ∙ c.if-is_empty.false))
-      | else-is_full w ↦ (
-          let some : ¬ (paths ≡ []) = λ none. true≢false
-          (sym (ap (λ (ps : List OpenPath). length ps == 0) none) ∙ sym w.is_empty.ensures ∙ sym w.value-is
-          ∙ c.if-is_empty.false) in
-          if_ok_more (λ found. found.items ≡ filter (do_cross paths) links)
-          (λ found. found.items ≡ needed_links links c.args.is_full (map (λ (p : OpenPath). p.walk.items) paths))
-          (λ found is. is ∙ crossed_by_paths links paths some
-          ∙ sym (ap (λ b. needed_links links b (map (λ (p : OpenPath). p.walk.items) paths)) w.if-is_full.false))
-          c.links_crossed.result c.links_crossed.ensures)
+pub loop-place-preserved : goal.loop-place-preserved
+loop-place-preserved c =
+    let n = c.args.topology.now in
+    let walks = map (λ (walk : OpenWalk). walk.hops.now) c.args.walks.now in
+    let there : slice_get n.links c.loop-place.place ≡ Some c.link-item.result =
+    ap (λ (ls : List Link). slice_get ls c.loop-place.place) (sym c.links-link-items.ensures)
+    ∙ slice_get-get_or c.links-link-items.result.now c.loop-place.place c.link-item.result c.loop-place-test.true ∙ ap Some (sym c.link-item.is) in
+    let next = filter_next (is_crossed walks) n.links c.loop-place.place c.link-item.result there in
+    let cross = c.do_cross.ensures ∙ all_cross n c.known.ensures c.loop-place.place c.link-item.result there c.args.walks.now c.requires in
+    elim c.if-do_cross.branch [
+      | then-do_cross+in_ok-push w ↦ search (rules, next, cross)
+      | else-do_cross w ↦ search (rules, next, cross)
     ]

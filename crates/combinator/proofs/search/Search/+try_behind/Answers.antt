@@ -7,7 +7,8 @@ use Rattle.combinator.specs.inner.Group.{GroupValue, IsGroup}
 use Rattle.combinator.specs.inner.Over.{OfChoices, OfEachOver}
 use Rattle.combinator.specs.inner.Search.{AreBefore, IsMetBy}
 use Rattle.combinator.proofs.Over.{group_there}
-use Rattle.combinator.proofs.Passing.{choices_met_on, barred, met_behind_end, met_elsewhere, all_behind, longer_behind}
+use Rattle.combinator.proofs.Facts.{met_where_none}
+use Rattle.combinator.proofs.Passing.{choices_met_on, barred, behind_end, elsewhere, all_behind, longer_behind}
 use Rattle.combinator.proofs.Trying.{WasTriedOver, tried_more, none_tried, all_tried, of_part, for_more}
 use Rattle.combinator.proofs.search.Search.+try_behind.Goals as goal
 
@@ -28,7 +29,7 @@ loop-group-preserved-then-not-may_go_on g t c =
       still = c.loop-group.invariant.still;
       met = tried_more fact fact groups c.groups_from-next_groups.result.now (a.depth - 1) front a.at c.loop-group.group-index group
           c.loop-group-test.true c.group-item.is (λ list fine. fine) c.loop-group.invariant.met
-          (barred question a.self.now.limit kept groups c.requires.search.are.each front group c.requires.front.are is bars.0 bars.1 bars.2
+          (barred question (IsMetBy question a.self.now.limit kept) (met_where_none question a.self.now.limit kept) groups c.requires.search.are.each front group c.requires.front.are is bars.0 bars.1 bars.2
           (λ may. bars.3 (subst (MayAdjoin (kind_of bars.1.head)) (sym c.kind.ensures) may)) (a.depth - 1) a.at);
     }
 
@@ -82,7 +83,7 @@ loop-group-preserved-then-eq g t c =
     sym c.ends-end.ensures ∙ eqb-true c.ends-end.result c.ask.inside.dst (sym c.eq.ensures ∙ c.if-eq.true) ∙ dst in
     let here : WasTriedOver fact groups (a.depth - 1) front a.at group = λ begins. (
       subst fact c.with-longer.ensures c.in_ok-consider.ensures.met,
-      met_behind_end question limit after groups c.requires.search.are.each front group c.requires.front.are is ends (a.depth - 1) (ends_in group.head),
+      behind_end question (IsMetBy question limit after) (met_where_none question limit after) groups c.requires.search.are.each front group c.requires.front.are is ends (a.depth - 1) (ends_in group.head),
     ) in record {
       kept = c.in_ok-consider.ensures.kept;
       still = λ path met. c.in_ok-consider.ensures.still path (c.loop-group.invariant.still path met);
@@ -109,7 +110,7 @@ loop-group-preserved-then-depth-eq1 g t c =
     let clash : false ≡ true = sym c.if-eq.false ∙ c.eq.ensures ∙ eq-eqb c.ends-end.result c.ask.inside.dst (c.ends-end.ensures ∙ same ∙ sym dst) in
     cc) in
     let here : WasTriedOver fact groups (a.depth - 1) front a.at group = λ begins. (
-      met_elsewhere question limit kept groups c.requires.search.are.each front group c.requires.front.are is apart,
+      elsewhere question (IsMetBy question limit kept) (met_where_none question limit kept) groups c.requires.search.are.each front group c.requires.front.are is apart,
       none_tried fact groups (a.depth - 1) (front ++ group ∷ []) (ends_in group.head) (let one = c.if-depth-eq1.true in omega (arith, one)),
     ) in record {
       kept = c.loop-group.invariant.kept;
@@ -136,7 +137,7 @@ loop-group-preserved-then-is_behind-2 g t c =
     let clash : false ≡ true = sym c.if-eq.false ∙ c.eq.ensures ∙ eq-eqb c.ends-end.result c.ask.inside.dst (c.ends-end.ensures ∙ same ∙ sym dst) in
     cc) in
     let here : WasTriedOver fact groups (a.depth - 1) front a.at group = λ begins. (
-      met_elsewhere question limit kept groups c.requires.search.are.each front group c.requires.front.are is apart,
+      elsewhere question (IsMetBy question limit kept) (met_where_none question limit kept) groups c.requires.search.are.each front group c.requires.front.are is apart,
       longer_behind question limit kept groups c.requires.search.are.each front group c.requires.front.are is 1
           (subst (λ (paths : List PathValue). OfChoices (λ pieces. AreBefore limit paths pieces 1) (front ++ group ∷ [])) c.deref-in-loop-group.ensures.value
           (c.is_behind-in-loop-group.ensures c.if-is_behind-2.true)) (omega arith) (a.depth - 1) (ends_in group.head),
@@ -185,7 +186,7 @@ loop-group-preserved g t c =
     let after = c.try_behind.new.state.kept.items in
     let now = OfChoices (IsMetBy question limit after) in
     let here : WasTriedOver now groups (a.depth - 1) front a.at group = λ begins. (
-      met_elsewhere question limit after groups c.requires.search.are.each front group c.requires.front.are is apart,
+      elsewhere question (IsMetBy question limit after) (met_where_none question limit after) groups c.requires.search.are.each front group c.requires.front.are is apart,
       subst (λ (gs : List GroupValue). OfEachOver now groups (a.depth - 1) gs (ends_in group.head)) c.with-longer.ensures
           (subst (OfEachOver now groups (a.depth - 1) (groups_in c.with-longer.result)) c.ends-end.ensures c.in_ok-try_behind.ensures.met),
     ) in record {

@@ -1,0 +1,128 @@
+use Rattle.std.proofs.Common.{rules, ◌≡◌, ◌-◌, [], ◌∷◌, List, length, true, false, sym, ap, subst, eq-eqb, eqb-true, ◌∙◌, arith, length-append}
+use Rattle.path_verifier.specs.Piece.{ends_in, kind_of}
+use Rattle.path_verifier.specs.Accepted.{MayAdjoin}
+use Rattle.combinator.specs.Candidate.{Question}
+use Rattle.combinator.specs.inner.Front.{groups_in}
+use Rattle.combinator.specs.inner.Gathered.{IsListed, hops_in}
+use Rattle.combinator.specs.inner.Group.{GroupValue}
+use Rattle.combinator.specs.inner.Over.{OfChoices}
+use Rattle.combinator.proofs.Gathered.{all_full, listed_on, listed_where_none}
+use Rattle.combinator.proofs.Listing.{length_seen}
+use Rattle.combinator.proofs.Stepping.{barred_tried, end_tried, further_tried, last_tried, there}
+use Rattle.combinator.proofs.Trying.{all_tried, for_more}
+use Rattle.combinator.proofs.walks.Gathering.+try_behind.Goals as goal
+
+pub returns-then-len-self-clause-listed : goal.returns-then-len-self-clause-listed
+returns-then-len-self-clause-listed g t c =
+    let a = c.args in
+    all_full a.self.now.ask.now a.self.now.limit (hops_in c.loop-group.walks.items)
+    (length_seen c.loop-group.walks.items ∙ search rules)
+    a.self.now.groups.now c.requires.search.are.each a.depth (groups_in a.front.now) a.at
+
+pub loop-group-preserved-then-not-may_go_on : goal.loop-group-preserved-then-not-may_go_on
+loop-group-preserved-then-not-may_go_on g t c =
+    let a = c.args in
+    let question = a.self.now.ask.now in
+    let fact = IsListed question a.self.now.limit (hops_in c.loop-group.walks.items) in
+    let bars = c.may_go_on.ensures c.if-not-may_go_on.true in record {
+      gathered = c.loop-group.invariant.gathered;
+      still = c.loop-group.invariant.still;
+      listed = barred_tried question a.self.now.groups.now c.requires.search (groups_in a.front.now) c.requires.front (a.depth - 1) a.at
+          c.groups_from-next_groups.result.now c.groups_from-next_groups.ensures c.loop-group.group-index c.group-item.result
+          c.loop-group-test.true c.group-item.is fact fact
+          (listed_where_none question a.self.now.limit (hops_in c.loop-group.walks.items)) (λ list fine. fine) c.loop-group.invariant.listed
+          bars.0 bars.1 bars.2 (λ may. bars.3 (subst (MayAdjoin (kind_of bars.1.head)) (sym c.kind.ensures) may));
+    }
+
+pub add_walk-requires-clause-front : goal.add_walk-requires-clause-front
+add_walk-requires-clause-front g t c =
+    let a = c.args in
+    let groups = a.self.now.groups.now in
+    for_more a.self.now.ask.now groups c.requires.search (groups_in a.front.now) (groups_in c.with-longer.result) c.group-item.result
+    (there a.self.now.ask.now groups c.requires.search (groups_in a.front.now) c.requires.front (a.depth - 1) a.at
+    c.groups_from-next_groups.result.now c.groups_from-next_groups.ensures c.loop-group.group-index c.group-item.result
+    c.loop-group-test.true c.group-item.is)
+    c.with-longer.ensures c.requires.front
+
+pub loop-group-preserved-then-eq : goal.loop-group-preserved-then-eq
+loop-group-preserved-then-eq g t c =
+    let a = c.args in
+    let question = a.self.now.ask.now in
+    let limit = a.self.now.limit in
+    let old = hops_in c.loop-group.walks.items in
+    let new = hops_in c.add_walk.new.walks.items in
+    let dst : c.ask.inside.dst ≡ question.dst = ap (λ (q : Question). q.dst) c.ask.view_is in record {
+      gathered = c.in_ok-add_walk.ensures.gathered;
+      still = λ walk has. c.in_ok-add_walk.ensures.still walk (c.loop-group.invariant.still walk has);
+      listed = end_tried question a.self.now.groups.now c.requires.search (groups_in a.front.now) c.requires.front (a.depth - 1) a.at
+          c.groups_from-next_groups.result.now c.groups_from-next_groups.ensures c.loop-group.group-index c.group-item.result
+          c.loop-group-test.true c.group-item.is (IsListed question limit old) (IsListed question limit new)
+          (listed_where_none question limit new) (listed_on question limit old new c.in_ok-add_walk.ensures.still) c.loop-group.invariant.listed
+          (sym c.ends-end.ensures ∙ eqb-true c.ends-end.result c.ask.inside.dst (sym c.eq.ensures ∙ c.if-eq.true) ∙ dst)
+          (groups_in c.with-longer.result) c.with-longer.ensures c.in_ok-add_walk.ensures.listed;
+    }
+
+pub loop-group-preserved-then-depth-eq1 : goal.loop-group-preserved-then-depth-eq1
+loop-group-preserved-then-depth-eq1 g t c =
+    let a = c.args in
+    let question = a.self.now.ask.now in
+    let fact = IsListed question a.self.now.limit (hops_in c.loop-group.walks.items) in
+    let dst : c.ask.inside.dst ≡ question.dst = ap (λ (q : Question). q.dst) c.ask.view_is in
+    let apart : ¬ (ends_in c.group-item.result.head ≡ question.dst) = λ same. (
+    let clash : false ≡ true = sym c.if-eq.false ∙ c.eq.ensures ∙ eq-eqb c.ends-end.result c.ask.inside.dst (c.ends-end.ensures ∙ same ∙ sym dst) in
+    cc) in record {
+      gathered = c.loop-group.invariant.gathered;
+      still = c.loop-group.invariant.still;
+      listed = last_tried question a.self.now.groups.now c.requires.search (groups_in a.front.now) c.requires.front (a.depth - 1) a.at
+          c.groups_from-next_groups.result.now c.groups_from-next_groups.ensures c.loop-group.group-index c.group-item.result
+          c.loop-group-test.true c.group-item.is fact fact
+          (listed_where_none question a.self.now.limit (hops_in c.loop-group.walks.items)) (λ list fine. fine) c.loop-group.invariant.listed
+          apart (let one = c.if-depth-eq1.true in omega (arith, one));
+    }
+
+pub try_behind-requires : goal.try_behind-requires
+try_behind-requires g t c κs within =
+    let a = c.args in
+    let groups = a.self.now.groups.now in
+    let more = for_more a.self.now.ask.now groups c.requires.search (groups_in a.front.now) (groups_in c.with-longer.result) c.group-item.result
+    (there a.self.now.ask.now groups c.requires.search (groups_in a.front.now) c.requires.front (a.depth - 1) a.at
+    c.groups_from-next_groups.result.now c.groups_from-next_groups.ensures c.loop-group.group-index c.group-item.result
+    c.loop-group-test.true c.group-item.is)
+    c.with-longer.ensures c.requires.front in
+    let long = ap (λ (gs : List GroupValue). length gs) c.with-longer.ensures in
+    let both = length-append (groups_in a.front.now) (c.group-item.result ∷ []) in
+    let some = c.requires.some in
+    let few = c.requires.few in
+    let apart = c.if-depth-eq1.false in
+    let nearer = c.decreases in (
+      omega (arith, nearer, some),
+      (within, (c.requires.search, (c.loop-group.invariant.gathered, (more, (omega (arith, some, apart), omega (arith, long, both, few, some)))))),
+    )
+
+pub loop-group-preserved : goal.loop-group-preserved
+loop-group-preserved g t c =
+    let a = c.args in
+    let question = a.self.now.ask.now in
+    let limit = a.self.now.limit in
+    let old = hops_in c.loop-group.walks.items in
+    let new = hops_in c.try_behind.new.walks.items in
+    let dst : c.ask.inside.dst ≡ question.dst = ap (λ (q : Question). q.dst) c.ask.view_is in
+    let apart : ¬ (ends_in c.group-item.result.head ≡ question.dst) = λ same. (
+    let clash : false ≡ true = sym c.if-eq.false ∙ c.eq.ensures ∙ eq-eqb c.ends-end.result c.ask.inside.dst (c.ends-end.ensures ∙ same ∙ sym dst) in
+    cc) in record {
+      gathered = c.in_ok-try_behind.ensures.gathered;
+      still = λ walk has. c.in_ok-try_behind.ensures.still walk (c.loop-group.invariant.still walk has);
+      listed = further_tried question a.self.now.groups.now c.requires.search (groups_in a.front.now) c.requires.front (a.depth - 1) a.at
+          c.groups_from-next_groups.result.now c.groups_from-next_groups.ensures c.loop-group.group-index c.group-item.result
+          c.loop-group-test.true c.group-item.is (IsListed question limit old) (IsListed question limit new)
+          (listed_where_none question limit new) (listed_on question limit old new c.in_ok-try_behind.ensures.still) c.loop-group.invariant.listed
+          apart (groups_in c.with-longer.result) c.with-longer.ensures c.ends-end.result c.ends-end.ensures c.in_ok-try_behind.ensures.listed;
+    }
+
+pub returns-clause-listed : goal.returns-clause-listed
+returns-clause-listed g t c =
+    let a = c.args in
+    let some = c.requires.some in
+    all_tried (OfChoices (IsListed a.self.now.ask.now a.self.now.limit (hops_in c.loop-group.walks.items))) a.self.now.groups.now
+    c.groups_from-next_groups.result.now a.depth (a.depth - 1) (groups_in a.front.now) a.at c.loop-group.group-index (omega (arith, some))
+    c.groups_from-next_groups.ensures c.loop-group-test.false c.loop-group.invariant.listed

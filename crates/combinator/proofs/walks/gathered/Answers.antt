@@ -1,0 +1,14 @@
+use Rattle.std.proofs.Common.{◌≡◌, [], ap, subst}
+use Rattle.combinator.specs.Candidate.{Question}
+use Rattle.combinator.specs.inner.Gathered.{IsListed, hops_in}
+use Rattle.combinator.specs.inner.Over.{OfChoices, OfEachOver}
+use Rattle.combinator.proofs.Gathered.{are_walks}
+use Rattle.combinator.proofs.walks.gathered.Goals as goal
+
+pub returns : goal.returns
+returns g c =
+    let question = c.args.ask.now in
+    let walks = hops_in c.try_behind.new.walks.items in
+    are_walks question c.args.limit c.args.groups.now c.requires walks c.in_ok-try_behind.ensures.gathered
+    (subst (OfEachOver (OfChoices (IsListed question c.args.limit walks)) c.args.groups.now 3 [])
+    (ap (λ (q : Question). q.src) c.ask.view_is) c.in_ok-try_behind.ensures.listed)

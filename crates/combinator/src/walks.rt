@@ -1,0 +1,253 @@
+//! The walks of the paths that may be sent.
+//!
+//! All lists of groups that meet are tried until there are as many walks as are looked for. The paths
+//! of a list of groups have one walk, so one of them is looked at.
+
+ghost use Rattle.std.specs.Prelude.{◌≡◌, ◌↔◌, ◌+◌, ◌<◌, ◌≤◌, [], length, All, Contains, IfNone, IfOk, IfSome, IsTrue, OnOk, List, option_map, slice_get};
+ghost use Rattle.policy_expr.specs.declared.hop.WalkHop.{WalkHop};
+ghost use Rattle.combinator.specs.Candidate.{Question, question_of};
+ghost use Rattle.combinator.specs.Order.{walk_cmp};
+ghost use Rattle.combinator.specs.Walks.{AreWalks, IsWalkOf};
+ghost use Rattle.combinator.specs.inner.Front.{groups_in};
+ghost use Rattle.combinator.specs.inner.Gathered.{AreGathered, IsListed, StillList, hops_in};
+ghost use Rattle.combinator.specs.inner.Over.{AreFor, MaySearch, OfChoices, OfEachOver};
+ghost use Rattle.combinator.specs.inner.Placed.{InOrder, IsGap};
+
+use crate::found::{Found, compare_walks};
+use crate::front::Front;
+use crate::groups::Groups;
+use crate::request::PathRequest;
+use crate::usable_pieces::usable_pieces_of;
+use isd_as::IsdAs;
+use path_header::MAX_HOPS;
+use path_server::SegmentSet;
+use path_verifier::Walk;
+use policy_expr::{Policy, WalkHop};
+use std::alloc::{AllocError, Allocator, Global};
+use std::cmp::Ordering;
+use std::marker::Model;
+
+/// Walks of paths that may be sent, each once, in the order of walks: hop by hop, by AS, then by way
+/// in, then by way out.
+#[derive(Drop)]
+pub struct Walks {
+    walks: Vec<Vec<WalkHop>>,
+}
+
+impl Model for Walks {
+    ghost use Rattle.std.specs.Prelude.{List};
+    ghost use Rattle.policy_expr.specs.declared.hop.WalkHop.{WalkHop};
+    ghost use Rattle.combinator.specs.inner.Gathered.{hops_in};
+
+    ghost Value = { List (List WalkHop) };
+
+    ghost view = { λ w. hops_in w.walks.items };
+}
+
+impl Walks {
+    /// The number of walks.
+    pub fn len(&self) -> usize
+        ensures { result ≡ length self.now }
+    {
+        self.walks.len()
+    }
+
+    /// Whether there is no walk.
+    pub fn is_empty(&self) -> bool
+        ensures { IsTrue result ↔ (self.now ≡ []) }
+    {
+        self.walks.is_empty()
+    }
+
+    /// The walk at this place, from 0.
+    pub fn get(&self, place: usize) -> Option<&[WalkHop]>
+        ensures { option_map (λ walk. walk.now) result ≡ slice_get self.now place }
+    {
+        match self.walks.get(place) {
+            Some(walk) => Some(walk.as_slice()),
+            None => None,
+        }
+    }
+}
+
+/// A request for walks, the groups of which its paths are made, and the largest number of walks.
+#[derive(Drop)]
+struct Gathering<'g, 'a, 's, 'p, A: Allocator + Clone> {
+    alloc: Global,
+    ask: &'g PathRequest<'s, 'p, A>,
+    groups: &'g Groups<'a, 's>,
+    limit: usize,
+}
+
+/// The walks of the paths from `src` to `dst` that can be made of the segments of a set and may be
+/// sent at the set's second under a policy: all of them, or `limit` of them if there are as many.
+///
+/// It costs what [`paths_between`](crate::paths_between) does for pieces and groups. Then each list
+/// of groups that meet takes h steps of the verifier for its h hops, and what the policy takes, until
+/// there are `limit` walks. The memory is that of pieces, groups and walks.
+///
+/// [`AllocError`] if memory runs out.
+pub fn walks_between<A: Allocator + Clone>(
+    alloc: Global,
+    set: &SegmentSet,
+    src: IsdAs,
+    dst: IsdAs,
+    policy: &Policy<A>,
+    limit: usize,
+) -> Result<Walks, AllocError>
+    ensures { IfOk result
+        (AreWalks (question_of set.entry.now src dst policy.entry.now) limit) }
+{
+    let ask = PathRequest {
+        set,
+        src,
+        dst,
+        policy,
+    };
+    let pieces = usable_pieces_of(alloc, set, src, dst)?;
+    let groups = Groups::of(alloc, &pieces)?;
+    let walks = gathered(alloc, &ask, &groups, limit)?;
+    Ok(Walks { walks })
+}
+
+/// The walks of a request, of these groups.
+fn gathered<'g, 'a, 's, 'p, A: Allocator + Clone>(
+    alloc: Global,
+    ask: &'g PathRequest<'s, 'p, A>,
+    groups: &'g Groups<'a, 's>,
+    limit: usize,
+) -> Result<Vec<Vec<WalkHop>>, AllocError>
+    requires { MaySearch ask.now groups.now }
+    ensures { IfOk result (λ walks. AreWalks ask.entry.now limit (hops_in walks.items)) }
+{
+    let gathering = Gathering {
+        alloc,
+        ask,
+        groups,
+        limit,
+    };
+    let mut walks = Vec::new(alloc);
+    gathering.try_behind(&mut walks, &Front::Zero, ask.src, 3)?;
+    Ok(walks)
+}
+
+impl<'g, 'a, 's, 'p, A: Allocator + Clone> Gathering<'g, 'a, 's, 'p, A> {
+    /// Adds the walks of the paths that begin with pieces of these groups and go on, from the AS
+    /// `at`, with pieces of one to `depth` more.
+    fn try_behind(
+        &self,
+        walks: &mut Vec<Vec<WalkHop>>,
+        front: &Front<'g, 'a, 's>,
+        at: IsdAs,
+        depth: usize,
+    ) -> Result<(), AllocError>
+        requires search { MaySearch self.now.ask.now self.now.groups.now }
+        requires gathered { AreGathered self.now.ask.now self.now.limit (hops_in walks.old.items) }
+        requires front { AreFor self.now.ask.now (groups_in front.now) }
+        requires some { 0 < depth }
+        requires few { length (groups_in front.now) + depth ≤ 3 }
+        ensures gathered { OnOk result
+            (AreGathered self.now.ask.now self.now.limit (hops_in walks.new.items)) }
+        ensures still { OnOk result
+            (StillList self.now.limit (hops_in walks.old.items) (hops_in walks.new.items)) }
+        ensures listed { OnOk result (OfEachOver
+            (OfChoices (IsListed self.now.ask.now self.now.limit (hops_in walks.new.items)))
+            self.now.groups.now depth (groups_in front.now) at) }
+    {
+        let (ask, groups) = (self.ask, self.groups);
+        let next_groups = groups.groups_from(at);
+        for group in next_groups {
+            if walks.len() == self.limit {
+                return Ok(());
+            }
+            if !front.may_go_on(group.kind()) {
+                continue;
+            }
+            let longer = front.with(group);
+            let end = group.ends();
+            if end == ask.dst {
+                self.add_walk(walks, &longer)?;
+                continue;
+            }
+            if depth == 1 {
+                continue;
+            }
+            self.try_behind(walks, &longer, end, depth - 1)?;
+        }
+        Ok(())
+    }
+
+    /// Adds the walk of the paths of these groups, if they may be sent.
+    fn add_walk(
+        &self,
+        walks: &mut Vec<Vec<WalkHop>>,
+        front: &Front<'g, 'a, 's>,
+    ) -> Result<(), AllocError>
+        requires gathered { AreGathered self.now.ask.now self.now.limit (hops_in walks.old.items) }
+        requires front { AreFor self.now.ask.now (groups_in front.now) }
+        requires some { 0 < length (groups_in front.now) }
+        requires room { length (hops_in walks.old.items) < self.now.limit }
+        ensures gathered { OnOk result
+            (AreGathered self.now.ask.now self.now.limit (hops_in walks.new.items)) }
+        ensures still { OnOk result
+            (StillList self.now.limit (hops_in walks.old.items) (hops_in walks.new.items)) }
+        ensures listed { OnOk result
+            (OfChoices (IsListed self.now.ask.now self.now.limit (hops_in walks.new.items))
+            (groups_in front.now)) }
+    {
+        if front.hop_count() > MAX_HOPS {
+            return Ok(());
+        }
+        let found = Found::of(front.heads());
+        let mut walk = Walk::new();
+        if !self.ask.may_send(&mut walk, &found) {
+            return Ok(());
+        }
+        take_in(self.alloc, walks, walk.as_slice())
+    }
+}
+
+/// Adds a walk to those in order, unless it is among them.
+fn take_in(
+    alloc: Global,
+    walks: &mut Vec<Vec<WalkHop>>,
+    walk: &[WalkHop],
+) -> Result<(), AllocError>
+    requires { InOrder walk_cmp (hops_in walks.old.items) }
+    ensures order { OnOk result (InOrder walk_cmp (hops_in walks.new.items)) }
+    ensures few { OnOk result
+        (length (hops_in walks.new.items) ≤ length (hops_in walks.old.items) + 1) }
+    ensures there { OnOk result (Contains (hops_in walks.new.items) walk.now) }
+    ensures others { OnOk result ((other : List WalkHop)
+        → Contains (hops_in walks.old.items) other → Contains (hops_in walks.new.items) other) }
+    ensures each { OnOk result ((question : Question)
+        → All (IsWalkOf question) (hops_in walks.old.items) → IsWalkOf question walk.now
+        → All (IsWalkOf question) (hops_in walks.new.items)) }
+{
+    let Some(place) = place_in(walks, walk) else {
+        return Ok(());
+    };
+    let copy = Vec::from_slice(alloc, walk)?;
+    walks.insert(place, copy)?;
+    Ok(())
+}
+
+/// The place where a walk belongs among those in order, or nothing if it is there.
+fn place_in(walks: &[Vec<WalkHop>], walk: &[WalkHop]) -> Option<usize>
+    requires { InOrder walk_cmp (hops_in walks.now) }
+    ensures there { IfNone result (Contains (hops_in walks.now) walk.now) }
+    ensures within { IfSome result (λ place. place ≤ length walks.now) }
+    ensures gap { IfSome result (IsGap walk_cmp walk.now (hops_in walks.now)) }
+{
+    let mut low = 0;
+    let mut high = walks.len();
+    while low < high {
+        let middle = low + (high - low) / 2;
+        match compare_walks(&walks[middle], walk) {
+            Ordering::Less => low = middle + 1,
+            Ordering::Equal => return None,
+            Ordering::Greater => high = middle,
+        }
+    }
+    Some(low)
+}

@@ -1,0 +1,83 @@
+-- What is said of the walks of a pair is true of its question: the links that all its open walks
+-- cross are those that each open path needs, if all walks are known.
+use Rattle.std.proofs.Common.{◌≡◌, ℕ, ◌<◌, ◌≤◌, Bool, true, false, List, [], ◌∷◌, get_or, length, All, Contains, Option, None, refl, sym, ap, ◌∙◌, subst, arith, eqb-true}
+use Rattle.std.specs.Prelude.{◌↔◌, ◌==◌, filter}
+use Rattle.std.proofs.lemmas.List.Elements.{All-contains, All-filter, filter_passes}
+use Rattle.std.proofs.lemmas.List.Sums.{AllPass-from_list_all, list_all-from_AllPass}
+use Rattle.path_server.proofs.Members.{Contains-filter}
+use Rattle.policy_expr.specs.Policy.{Rules}
+use Rattle.policy_expr.specs.declared.hop.WalkHop.{WalkHop}
+use Rattle.scion_topology.specs.declared.network.Link.{Link}
+use Rattle.path_verifier.specs.Walk.{walk_of}
+use Rattle.combinator.specs.Candidate.{Question, PathValue, IsCandidate}
+use Rattle.combinator.specs.Walks.{AreWalks, IsWalkOf}
+use Rattle.network_core.specs.Value.{NetValue}
+use Rattle.path_report.specs.declared.best.BestPath.{BestPath}
+use Rattle.path_report.specs.declared.pair.AsPair.{AsPair}
+use Rattle.path_report.specs.Paths.{IsSurvived, crosses, is_open, open_walks}
+use Rattle.path_report.specs.Pair.{IsNeeded, IsPairReport, PairValue, TellsBest, question_between}
+use Rattle.path_report.specs.inner.Needed.{is_crossed}
+
+module _ (links : List Link) (question : Question) (limit : ℕ) (walks : List (List WalkHop))
+    (gathered : AreWalks question limit walks) where
+  -- where all walks are known, a link that each open one crosses is needed
+  crossed_is_needed : (link : Link) → length walks < limit → is_crossed (open_walks links walks) link ≡ true
+      → IsNeeded links question link
+  crossed_is_needed link short crossed path candidate opens =
+      All-contains (λ walk. crosses walk link ≡ true) (open_walks links walks) (walk_of path.pieces)
+      (AllPass-from_list_all (λ walk. crosses walk link) (open_walks links walks) crossed)
+      ((Contains-filter (is_open links) walks (walk_of path.pieces)).1 (gathered.whole short path candidate, opens))
+
+  needed_is_crossed : (link : Link) → IsNeeded links question link → is_crossed (open_walks links walks) link ≡ true
+  needed_is_crossed link needed =
+      list_all-from_AllPass (λ walk. crosses walk link) (open_walks links walks)
+      (λ k d within.
+      let walk = get_or (open_walks links walks) k d in
+      let is : IsWalkOf question walk = All-filter (is_open links) (IsWalkOf question) walks gathered.each k d within in
+      ap (λ hops. crosses hops link) (sym is.same)
+      ∙ needed is.path is.candidate (ap (is_open links) is.same ∙ filter_passes (is_open links) walks k d within))
+
+  needed_exactly : length walks < limit → (link : Link)
+      → Contains (filter (is_crossed (open_walks links walks)) links) link ↔ (Contains links link × IsNeeded links question link)
+  needed_exactly short link =
+      let kept = Contains-filter (is_crossed (open_walks links walks)) links link in (
+        λ found. (let both = kept.0 found in (both.0, crossed_is_needed link short both.1)),
+        λ both. kept.1 (both.0, needed_is_crossed link both.1),
+      )
+
+module _ (net : NetValue) (rules : Rules) (limit : ℕ) (pair : AsPair) (walks : List (List WalkHop))
+    (gathered : AreWalks (question_between net rules pair) limit walks) where
+  abbrev opens : List (List WalkHop)
+  opens = open_walks net.network.links walks
+
+  -- where all walks are known, and one is open
+  module _ (paths survives : ℕ) (best : Option BestPath) (needed : List Link)
+      (apart : ¬ (length walks ≡ limit)) (count : paths ≡ length opens) (some : 0 < paths)
+      (tells : TellsBest net.network.links (question_between net rules pair) limit best)
+      (survived : IsSurvived net.network.links opens survives)
+      (is : needed ≡ filter (is_crossed opens) net.network.links) where
+    short : length walks < limit
+    short = let few = gathered.few in omega (arith, few, apart)
+
+    pub reported_all : IsPairReport net rules limit (record {
+      pair = pair;
+      is_full = length walks == limit;
+      paths = paths;
+      best = best;
+      survives = survives;
+      needed = needed;
+    })
+    reported_all = record {
+      walks = walks;
+      gathered = gathered;
+      full = refl;
+      count = count;
+      best = λ up. tells;
+      links = λ known_too up link. subst (λ (list : List Link). Contains list link ↔ (Contains net.network.links link
+          × IsNeeded net.network.links (question_between net rules pair) link)) (sym is)
+          (needed_exactly net.network.links (question_between net rules pair) limit walks gathered short link);
+      order = λ known_too up. is;
+      survives = λ known_too up. survived;
+      unknown = λ full. absurd (apart (eqb-true (length walks) limit full));
+      none = λ none. absurd (omega (arith, some, none));
+    }

@@ -1,7 +1,0 @@
--- No path so far is open.
-use Rattle.std.proofs.Common.{◌≡◌, [], take}
-use Rattle.path_report.specs.Paths.{open_paths}
-use Rattle.path_report.proofs.best.best_of.Given as goal
-
-abbrev pub invariant-loop-place : goal.invariant-loop-place
-invariant-loop-place l = open_paths l.links (take l.place l.paths) ≡ []
