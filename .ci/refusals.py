@@ -64,7 +64,8 @@ TYPES = {
         )
     ],
     "scion_topology": [("TopologyFault", "", "the first, behind `topology`; ")],
-    "router_step": [("Refusal", "scion_step", "`turn`, `show`, `scionet step`, `work`")],
+    "router_step": [("Refusal", "turn scion_step", "`turn`, `show`, `scionet step`, `work`")],
+    "scion_packet": [("PacketFault", "turn", "")],
     "path_segment": [("SegmentFault", "scion_paths scion_verify", "")],
     "path_server": [("StoreFault", "", "")],
     "segment_board": [("BoardFault", "", "")],
