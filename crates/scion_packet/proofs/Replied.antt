@@ -10,7 +10,9 @@ use Rattle.path_header.proofs.WholeHeader.{length-spelling}
 use Rattle.scion_packet.specs.declared.fault.PacketFault.{PacketFault}
 use Rattle.scion_packet.specs.Value.{PacketInfoValue, WholePacketValue, headers_len}
 use Rattle.scion_packet.specs.Spelling.{front_of, SpellsPacket}
-use Rattle.scion_packet.specs.Reply.{reply_info, reply_to}
+use Rattle.scion_packet.specs.Reading.{whole_packet_at}
+use Rattle.scion_packet.specs.Reply.{reply_info, reply_to, IsReplied}
+use Rattle.scion_packet.proofs.Spelled.{front_is}
 use Rattle.scion_packet.proofs.ReadWhole.{packet_like}
 
 -- ---- the way back is as long as the way
@@ -40,17 +42,13 @@ reply_len v is = omega (arith, reversed_len v.header is)
 
 -- ---- where the payload begins
 
-front_len : (v : WholePacketValue) → length (front_of v)
-    ≡ 28 + length v.info.destination_host.bytes + length v.info.source_host.bytes
-front_len v = omega (arith, length-append v.info.destination_host.bytes v.info.source_host.bytes)
-
 headers_are : (v : WholePacketValue) (packet : List ℕ) → SpellsPacket packet v
     → length (front_of v ++ spelling v.header) ≡ headers_len v
 headers_are v packet s =
     omega (
       arith,
       length-append (front_of v) (spelling v.header),
-      front_len v,
+      front_is v,
       length-spelling v.header s.fits.is_header s.fits.header_fits,
     )
 
@@ -103,6 +101,9 @@ replied packet new v w s is destination source payload spelled =
     (packet_like w.info _ w.destination _ w.source _ w.header _ w.payload _ is.info destination
     source is.header (payload ∙ payload_is v packet s)) spelled
 
-pub same_read : (r : Result WholePacketValue PacketFault) (v w : WholePacketValue) → r ≡ Ok v
-    → r ≡ Ok w → v ≡ w
-same_read r v w e f = cc
+pub replied_exactly : (packet new : List ℕ) (v : WholePacketValue)
+    → whole_packet_at packet ≡ Ok v → SpellsPacket new (reply_to v)
+    → IsReplied (whole_packet_at packet) packet new (Ok tt)
+replied_exactly packet new v read spelled =
+    subst (λ (r : Result WholePacketValue PacketFault). IsReplied r packet new (Ok tt)) (sym read)
+    (refl, spelled)

@@ -46,10 +46,10 @@ first_byte n small = omega (arith, from_be_bytes-to_be_bytes_4 n (omega (arith, 
 
 -- ---- its parts
 
-front_len : (v : WholePacketValue)
+pub front_is : (v : WholePacketValue)
     → length (front_of v)
     ≡ 28 + length v.info.destination_host.bytes + length v.info.source_host.bytes
-front_len v = omega (arith, length-append v.info.destination_host.bytes v.info.source_host.bytes)
+front_is v = omega (arith, length-append v.info.destination_host.bytes v.info.source_host.bytes)
 
 in_fours : (ld ls i h : ℕ) → ld % 4 ≡ 0 → ls % 4 ≡ 0
     → 4 * ((28 + ld + ls + (4 + 8 * i + 12 * h)) / 4) ≡ 28 + ld + ls + (4 + 8 * i + 12 * h)
@@ -65,7 +65,7 @@ whole_of v bytes s =
     let sh = f.info.source_host in
     let cd = coded (length d.bytes) dh.least dh.most dh.words in
     let cs = coded (length e.bytes) sh.least sh.most sh.words in
-    let len = front_len v in
+    let len = front_is v in
     let at_d =
     destination_code d.kind (code (length d.bytes)) e.kind
     (code (length e.bytes)) cd.1 sh.kind cs.1 in

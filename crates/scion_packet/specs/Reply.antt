@@ -1,6 +1,9 @@
 -- The reply to a whole packet, over the way back.
+use Rattle.std.specs.Prelude.{◌≡◌, List, ℕ, Result, Ok, Err}
 use Rattle.path_header.specs.Reversal.{reversed_header}
+use Rattle.scion_packet.specs.declared.fault.PacketFault.{PacketFault}
 use Rattle.scion_packet.specs.Value.{PacketInfoValue, WholePacketValue}
+use Rattle.scion_packet.specs.Spelling.{SpellsPacket}
 
 -- what the reply to a packet says: the same with both hosts exchanged
 abbrev pub reply_info : PacketInfoValue → PacketInfoValue
@@ -17,3 +20,9 @@ reply_to v = record {
   header = reversed_header v.header;
   payload = v.payload;
 }
+
+-- the bytes spell the reply to the packet that was read; or it is refused, and they are as they were
+abbrev pub IsReplied : (packet : Result WholePacketValue PacketFault) (old new : List ℕ)
+    (result : Result (Unit {0}) PacketFault) → Type 0
+IsReplied (Ok v) old new result = (result ≡ Ok tt) × SpellsPacket new (reply_to v)
+IsReplied (Err fault) old new result = (result ≡ Err fault) × (new ≡ old)

@@ -31,10 +31,13 @@ pub record WholePacketValue : Type 0 where
   pub header : HeaderValue
   pub payload : List ℕ
 
+-- the length of what stands in front of the path header
+abbrev pub front_len : WholePacketValue → ℕ
+front_len v = 28 + length v.info.destination_host.bytes + length v.info.source_host.bytes
+
 -- the length of all headers
 abbrev pub headers_len : WholePacketValue → ℕ
-headers_len v = 28 + length v.info.destination_host.bytes + length v.info.source_host.bytes
-    + header_len v.header
+headers_len v = front_len v + header_len v.header
 
 -- the length of the packet
 abbrev pub packet_len : WholePacketValue → ℕ

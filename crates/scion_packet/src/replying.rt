@@ -1,11 +1,7 @@
 //! The reply to a whole packet.
 
-ghost use Rattle.std.specs.Prelude.{◌≡◌, OnErr};
-ghost use Rattle.path_header.specs.Shown.{without_value};
-ghost use Rattle.scion_packet.specs.Value.{WholePacketValue};
-ghost use Rattle.scion_packet.specs.Spelling.{SpellsPacket};
 ghost use Rattle.scion_packet.specs.Reading.{whole_packet_at};
-ghost use Rattle.scion_packet.specs.Reply.{reply_to};
+ghost use Rattle.scion_packet.specs.Reply.{IsReplied};
 
 use crate::fault::PacketFault;
 use crate::packet::WholePacket;
@@ -17,11 +13,8 @@ use crate::writing::put_headers;
 ///
 /// It has the refusals of [`read`], in their order; after a refusal every byte is as before.
 pub fn reply(packet: &mut [u8]) -> Result<(), PacketFault>
-    ensures exact { result ≡ without_value (whole_packet_at packet.old) }
-    // The bytes are the spelling of the reply to the packet that they spelled.
-    ensures replied { (v : WholePacketValue) → SpellsPacket packet.old v
-        → SpellsPacket packet.new (reply_to v) }
-    ensures err { OnErr result (packet.new ≡ packet.old) }
+    // The exact reply, which the bytes spell, or the refusal.
+    ensures exact { IsReplied (whole_packet_at packet.old) packet.old packet.new result }
 {
     let received = match read(packet) {
         Ok(received) => received,

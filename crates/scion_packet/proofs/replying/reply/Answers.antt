@@ -1,10 +1,10 @@
 -- The reply has the parts of the packet that was read, the other way round, and its room.
-use Rattle.std.proofs.Common.{◌≡◌, ◌-◌, length, drop, sym, subst, ap, ◌∙◌}
+use Rattle.std.proofs.Common.{◌-◌, length, drop, sym, subst, ap, ◌∙◌}
 use Rattle.path_header.specs.Reversal.{reversed_header}
 use Rattle.scion_packet.specs.Value.{WholePacketValue}
 use Rattle.scion_packet.specs.Reply.{reply_info}
 use Rattle.scion_packet.specs.Spelling.{SpellsPacket}
-use Rattle.scion_packet.proofs.Replied.{IsReply, room_is, replied, same_read}
+use Rattle.scion_packet.proofs.Replied.{IsReply, room_is, replied, replied_exactly}
 use Rattle.scion_packet.proofs.replying.reply.Goals as goal
 
 pub put_headers-requires-clause-room : goal.put_headers-requires-clause-room
@@ -31,10 +31,11 @@ put_headers-requires-clause-room c =
     room_is packet c.split_at_mut-headers.result.0.now v w spelled is
     c.split_at_mut-headers.ensures.front_len
 
-pub returns-clause-replied : goal.returns-clause-replied
-returns-clause-replied c v s =
+pub returns : goal.returns
+returns c =
     let packet = c.args.packet.now in
     let read = c.received.inside in
+    let v = c.in-Ok.received in
     let w : WholePacketValue = record {
       info = c.into_reply.result;
       destination = read.source;
@@ -42,20 +43,17 @@ returns-clause-replied c v s =
       header = c.reverse.new.self;
       payload = c.split_at_mut-headers.result.1.now;
     } in
-    let same : (let x : WholePacketValue = record {
-      info = read.info;
-      destination = read.destination;
-      source = read.source;
-      header = read.header;
-      payload = read.payload.now;
-    } in x ≡ v) =
-    c.received.view_is ∙ same_read c.read.result _ v c.in-Ok.is (c.read.ensures.only v s) in
+    let same = c.received.view_is in
     let is : IsReply v w = record {
       info = c.into_reply.ensures ∙ ap (λ (x : WholePacketValue). reply_info x.info) same;
       header = c.reverse.ensures ∙ ap (λ (x : WholePacketValue). reversed_header x.header) same;
     } in
-    replied packet _ v w s is (ap (λ (x : WholePacketValue). x.source) same)
-    (ap (λ (x : WholePacketValue). x.destination) same)
-    (c.split_at_mut-headers.ensures.back
-    ∙ ap (λ (x : WholePacketValue). drop (length packet - length x.payload) packet) same)
-    c.put_headers.ensures
+    record {
+      exact = replied_exactly packet _ v (sym c.read.ensures.exact ∙ c.in-Ok.is)
+          (replied packet _ v w c.in-Ok.ensures.found is
+          (ap (λ (x : WholePacketValue). x.source) same)
+          (ap (λ (x : WholePacketValue). x.destination) same)
+          (c.split_at_mut-headers.ensures.back
+          ∙ ap (λ (x : WholePacketValue). drop (length packet - length x.payload) packet) same)
+          c.put_headers.ensures);
+    }
