@@ -38,6 +38,8 @@ fn check_hops(bytes: &[u8], count: usize) -> Result<(), HeaderFault>
 
 /// Checks whether the bytes begin with a path header, with the refusals of [`crate::decode`], and
 /// returns the length of the header.
+// Inlined: out of line a turn of a router takes 26 instructions more where two calls check headers.
+#[inline(always)]
 #[tactic(auto, unfolding(crate::specs::Reading::header_at))]
 pub(crate) fn check_len(bytes: &[u8]) -> Result<usize, HeaderFault>
     ensures exact { result ≡ len_at bytes.now }
