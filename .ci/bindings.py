@@ -5,8 +5,8 @@ First it compares their numbers with the tables of the crates (`host_numbers.py`
 the static libraries over what `rt ci` has proved, since that leaves none, and runs the tours: in C
 by each compiler that is there (the kit's clang is), in C++, in Python, as a package too, in Rust
 and in JavaScript. Their answers are held to what the rules of routers and of paths say.
-`answers.py` compares random requests for paths with a search that tries every list of pieces. The
-commands by which bindings/README.md links are run as they stand.
+`answers.py` compares random requests for paths with a search that tries every list of pieces, and
+`packets.py` whole packets with a second reader of them. The commands by which bindings/README.md links are run as they stand.
 
 What is not on the machine is told, and left out; but without a compiler for C nothing would be
 tested, so that the status is 1 then, unless the word is `--without-compiler`. It is 1 too where an
@@ -32,6 +32,9 @@ import host_numbers  # noqa: E402
 STRICT = ("-O2", "-Wall", "-Wextra", "-Wpedantic", "-Werror")
 CXX = "c++"
 NODE = ["node", "--experimental-wasm-memory64"]
+
+# Turns of routers on whole packets.
+PACKETS = "cases/packets/turns.tsv"
 
 # The page for hosts. A block of its commands is run, with what has to be on the machine for it.
 PAGE = "bindings/README.md"
@@ -78,7 +81,18 @@ class Gate:
         tour = os.path.join(BINDINGS, "python", "tour.py")
         self.run(f"Python over {name}", [*python, tour, shared])
         self.run(f"answers over {name}", [*python, os.path.join(".ci", "answers.py"), shared])
+        self.packets_in_c(name, compiler)
+        packets = os.path.join(".ci", "packets.py")
+        self.run(f"whole packets in Python over {name}", [*python, packets, shared])
         self.routers(name, compiler)
+
+    def packets_in_c(self, name, compiler):
+        """Whole packets by one compiler for C."""
+        program = self.path(f"packets-by-{name}")
+        source = os.path.join(BINDINGS, "c", "packets.c")
+        build.link_program(compiler, build.ROUTER, source, program, ("-std=c11", *STRICT))
+        with open(PACKETS, "rb") as it:
+            self.run(f"whole packets by {name}", [program], stdin=it)
 
     def routers(self, name, compiler):
         """The routers of a network as processes: examples/udp, which ends well if a packet crosses
@@ -125,8 +139,9 @@ class Gate:
         if self.has("node"):
             module = os.path.join(build.OUT, "scion.wasm")
             build.build_wasm(module)
-            tour = os.path.join(BINDINGS, "js", "tour.mjs")
+            tour, packets = (os.path.join(BINDINGS, "js", it) for it in ("tour.mjs", "packets.mjs"))
             self.run("node", [*NODE, tour, module])
+            self.run("whole packets by node", [*NODE, packets, module, PACKETS])
 
     def documented(self):
         """The commands of the page that link, and its program that runs a network."""

@@ -22,7 +22,8 @@ LAYERS = {
     "Values of SCION": "isd_as hop_mac path_header scion_topology path_segment policy_expr",
     "Segments and paths": "beaconing path_server segment_board path_verifier combinator"
     " daemon_cache",
-    "Packets and networks": "router_step forwarding network_core router_workers",
+    "Packets and networks": "router_step scion_packet forwarding network_core whole_packets"
+    " router_workers",
     "Texts in and out": "event_lines work_lines beacon_lines step_line packet_view network_view"
     " path_report line_faults commands",
     "Programs, and libraries for other languages": "scionet scionet_view tour bench scion_ffi"

@@ -19,8 +19,10 @@ import refusals
 # The refusals of the parts of a router; a topology has more, which no call of a host can meet.
 OF_PARTS = ("BadField", "DuplicateIf")
 
-# The refusal of a header that was to be written to a short room; a host's bytes hold one already.
+# The refusal of what was to be written to a short room. A host's bytes hold a header already, so
+# that it is one of packets, whose name in C says so: ROOM_TOO_SMALL is what happened to an answer.
 OF_WRITING = "RoomTooSmall"
+OF_PACKETS = "PACKET_ROOM_TOO_SMALL"
 
 # A way in that carries a number is called by what it means.
 RENAMED = {"LINK": "OVER_LINK"}
@@ -57,7 +59,10 @@ def codes():
     parts = refusals.numbers_of("scion_topology", "TopologyFault")
     headers = refusals.numbers_of("path_header", "HeaderFault")
     router = refusals.numbers_of("router_step", "Refusal")
-    rows = [parts[name] for name in OF_PARTS] + [*headers.values(), *router.values()]
+    packets = refusals.numbers_of("scion_packet", "PacketFault")
+    found[OF_PACKETS], _ = packets[OF_WRITING]
+    rows = [parts[name] for name in OF_PARTS]
+    rows += [*headers.values(), *router.values(), *packets.values()]
     return found | {constant(name): number for number, name in rows if name != OF_WRITING}
 
 
@@ -232,6 +237,7 @@ def check():
         pairs.append((f"{name} in Python", in_python(name), wanted))
         pairs.append((f"{name} in JavaScript", in_javascript(name), wanted))
     wanted = {name: name for name in [*kinds, *arrivals, *answers]}
+    wanted[OF_PACKETS] = constant(OF_WRITING)
     given = {name: constant(variant) for name, variant in variants_in_rust()}
     pairs.append(("the variants of Rust", given, wanted))
     wrong = 0

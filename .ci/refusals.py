@@ -42,9 +42,9 @@ out of its range. |
 
 ## `scion_ffi`
 A call from another language whose numbers say nothing changes nothing. Its other answers are the
-refusals of `scion_topology`, `path_header` and `router_step` by their numbers.
+refusals of `scion_topology`, `path_header`, `router_step` and `scion_packet` by their numbers.
 
-Calls: `scion_step`, `scion_step_all`.
+Calls: `scion_step`, `scion_step_all`, `scion_whole_packet_step`.
 
 | number | name | meaning |
 |---|---|---|
@@ -64,7 +64,21 @@ TYPES = {
         )
     ],
     "scion_topology": [("TopologyFault", "", "the first, behind `topology`; ")],
-    "router_step": [("Refusal", "scion_step", "`turn`, `show`, `scionet step`, `work`")],
+    "router_step": [
+        (
+            "Refusal",
+            "turn scion_step scion_whole_packet_step",
+            "`turn`, `show`, `scionet step`, `work`",
+        )
+    ],
+    "scion_packet": [
+        (
+            "PacketFault",
+            "turn scion_whole_packet_step scion_whole_packet_read scion_whole_packet_write"
+            " scion_whole_packet_reply",
+            "",
+        )
+    ],
     "path_segment": [("SegmentFault", "scion_paths scion_verify", "")],
     "path_server": [("StoreFault", "", "")],
     "segment_board": [("BoardFault", "", "")],

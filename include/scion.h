@@ -1,5 +1,6 @@
 /* SPDX-License-Identifier: Apache-2.0 */
-/* A router, path headers and authenticators of SCION: each call does what a proved contract says.
+/* A router, packets, path headers and authenticators of SCION: each call does what a proved
+ * contract says.
  *
  * Link libscion_ffi.a, which needs memcpy, memmove and memset and nothing else. Its calls take no
  * memory, keep no pointer, and return after a time that the lengths bound. They answer all values
@@ -8,10 +9,12 @@
  * A host keeps these duties, which these calls don't check; scion_checked.h does, as far as can be:
  * - no pointer is null, not even if its length is 0;
  * - each points to as many items as its length says, and they are aligned;
- * - what a call reads is initialized. What it only writes need not be: `mac`, a room, and the
- *   answers in the records of packets;
+ * - what a call reads is initialized. What it only writes need not be: `mac`, a room, the answers
+ *   in the records of packets, and a scion_packet_info that is read;
  * - what a call may write lies apart from all else that it is given: a packet from other packets,
- *   keys, interfaces and records; `mac` from the key; a room from the request;
+ *   keys, interfaces and records; `mac` from the key; a room from the request, and from the path,
+ *   the payload and the record of a packet that is written; such a record from a packet that is
+ *   read;
  * - while a call runs, nobody else writes what it reads, or reads or writes what it may write.
  * Calls on different bytes may run on different threads at the same time.
  *
@@ -41,7 +44,8 @@ enum {
 /* Why a call was refused. None of its arguments has changed then. */
 enum {
     SCION_BAD_CALL = 9,      /* no such kind, state or way in, or more than 256 interfaces */
-    SCION_BAD_FIELD = 11,    /* a wildcard address, interface 0, or a key not of 1 to 64 bytes */
+    SCION_BAD_FIELD = 11,    /* a wildcard address, interface 0, or a key not of 1 to 64 bytes; a
+                                flow or a host's address of a packet that is written */
     SCION_DUPLICATE_IF = 13, /* two interfaces have the same number */
 
     SCION_SHORT = 20,        /* the bytes end before the header does */
@@ -51,6 +55,8 @@ enum {
     SCION_SEG_LENS = 24,
     SCION_TOO_MANY_HOPS = 25,
     SCION_BAD_INDEX = 26,
+
+    SCION_PACKET_ROOM_TOO_SMALL = 27, /* the room is shorter than the packet */
 
     SCION_BAD_HEADER = 90,   /* `number` is one of 20 to 26 */
     SCION_INDEX_MISMATCH = 91,
@@ -63,6 +69,13 @@ enum {
     SCION_UNKNOWN_EGRESS = 98,
     SCION_LINK_KINDS = 99,
     SCION_LINK_DOWN = 100,
+
+    SCION_SHORT_PACKET = 160,   /* the bytes end before the addresses do */
+    SCION_BAD_VERSION = 161,
+    SCION_BAD_PATH_TYPE = 162,  /* the path is no SCION path */
+    SCION_BAD_HEADER_LENGTH = 163,
+    SCION_BAD_PAYLOAD_LENGTH = 164,
+    SCION_PAYLOAD_TOO_LARGE = 165, /* above 65,535 bytes */
 };
 
 /* What the AS at the far end of a link is: another core AS, a parent, or a child. */
@@ -102,8 +115,30 @@ typedef struct {
     uint8_t arrival;     /* SCION_FROM_HOST, SCION_INSIDE or SCION_OVER_LINK */
 } scion_packet;
 
+/* The address of a host: type 0 with 4 bytes is IPv4, with 16 bytes IPv6, type 1 with 4 bytes a
+ * service. */
+typedef struct {
+    uint8_t kind;      /* its type, 0 to 3 */
+    uint8_t len;       /* 4, 8, 12 or 16 */
+    uint8_t bytes[16]; /* the first `len` of them; a call writes zeros behind these */
+} scion_host;
+
+/* What a whole packet says besides its path and its payload. */
+typedef struct {
+    uint64_t destination;  /* the AS: 16 bits of ISD, then 48 of AS number */
+    uint64_t source;
+    uint32_t flow_id;      /* below 2^20 */
+    uint16_t reserved;     /* two bytes of the packet, 0 but for a reason */
+    uint16_t path_start;   /* where the path header begins; not looked at by a call that writes */
+    uint8_t traffic_class;
+    uint8_t next_header;   /* with what the payload begins, as 17 for UDP */
+    scion_host destination_host;
+    scion_host source_host;
+} scion_packet_info;
+
 /* One step of a router on a packet, in place, at the second `now`. A packet is 8 bytes of
- * destination, 8 of source, a path header and a payload. Codes: 0, 1, 2; 9, 11, 13; 90 to 100.
+ * destination, 8 of source, a path header and a payload; scion_whole_packet_step takes packets with
+ * all their headers. Codes: 0, 1, 2; 9, 11, 13; 90 to 100.
  * With code 0, 1 or 2 only bytes of its header may have changed, with any other code no byte has. A
  * packet that came over a link and is delivered may have changed too: a reply needs its bytes as
  * they are then. */
@@ -115,6 +150,30 @@ scion_answer scion_step(const scion_router *router, uint32_t now, uint8_t arriva
  * no packet and no answer has changed. */
 scion_answer scion_step_all(const scion_router *router, uint32_t now, scion_packet *packets,
                             size_t len);
+
+/* The same step on a whole packet, as it is on the wire between border routers: common header,
+ * address header, path header and payload (docs/router.md). Codes: 0, 1, 2; 9, 11, 13; 160 to 164
+ * if the bytes are no whole packet, and 90 if they have no path header; 91 to 100. */
+scion_answer scion_whole_packet_step(const scion_router *router, uint32_t now, uint8_t arrival,
+                                     uint16_t interface, uint8_t *packet, size_t len);
+
+/* Writes what a whole packet says to `info`: SCION_DONE and the length of all headers. The path
+ * header stands between info->path_start and there, and the payload behind it. Else 90 or one of
+ * 160 to 164, and `info` has not changed. */
+scion_answer scion_whole_packet_read(const uint8_t *packet, size_t len, scion_packet_info *info);
+
+/* Writes a whole packet to the front of the room: what `info` says, the path header with which
+ * `path` begins, and a payload. SCION_DONE and the length of all headers, so that the packet has
+ * this length and payload_len. Else the first of 11, 90, 165 and 27, and the room has not changed.
+ */
+scion_answer scion_whole_packet_write(const scion_packet_info *info, const uint8_t *path,
+                                      size_t path_len, const uint8_t *payload, size_t payload_len,
+                                      uint8_t *room, size_t room_len);
+
+/* Replaces a whole packet by the reply to it, of the same length: hosts and ASes are exchanged, the
+ * path is that of the way back, and the rest stays. SCION_DONE; or 90 or one of 160 to 164, and no
+ * byte has changed. */
+scion_answer scion_whole_packet_reply(uint8_t *packet, size_t len);
 
 /* Whether these bytes begin with a path header: SCION_DONE and its length in bytes, at most 796, or
  * one of 20 to 26. */

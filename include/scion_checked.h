@@ -94,6 +94,45 @@ static inline scion_answer scion_step_all_checked(const scion_router *router, ui
     return scion_step_all(router, now, packets, len);
 }
 
+/* scion_whole_packet_step; SCION_BAD_CALL also where a duty is not kept. */
+static inline scion_answer scion_whole_packet_step_checked(const scion_router *router,
+                                                           uint32_t now, uint8_t arrival,
+                                                           uint16_t interface, uint8_t *packet,
+                                                           size_t len) {
+    if (!packet || !scion_has_parts(router)) return scion_bad_call();
+    if (!scion_is_apart(router, scion_bytes_at(packet, len))) return scion_bad_call();
+    return scion_whole_packet_step(router, now, arrival, interface, packet, len);
+}
+
+/* scion_whole_packet_read; SCION_BAD_CALL where a duty is not kept. */
+static inline scion_answer scion_whole_packet_read_checked(const uint8_t *packet, size_t len,
+                                                           scion_packet_info *info) {
+    if (!packet || !info) return scion_bad_call();
+    if (scion_overlap(scion_bytes_at(info, sizeof *info), scion_bytes_at(packet, len)))
+        return scion_bad_call();
+    return scion_whole_packet_read(packet, len, info);
+}
+
+/* scion_whole_packet_write; SCION_BAD_CALL where a duty is not kept. */
+static inline scion_answer scion_whole_packet_write_checked(const scion_packet_info *info,
+                                                            const uint8_t *path, size_t path_len,
+                                                            const uint8_t *payload,
+                                                            size_t payload_len, uint8_t *room,
+                                                            size_t room_len) {
+    scion_bytes written = scion_bytes_at(room, room_len);
+    if (!info || !path || !payload || !room) return scion_bad_call();
+    if (scion_overlap(written, scion_bytes_at(info, sizeof *info)) ||
+        scion_overlap(written, scion_bytes_at(path, path_len)) ||
+        scion_overlap(written, scion_bytes_at(payload, payload_len)))
+        return scion_bad_call();
+    return scion_whole_packet_write(info, path, path_len, payload, payload_len, room, room_len);
+}
+
+/* scion_whole_packet_reply; SCION_BAD_CALL where the pointer is null. */
+static inline scion_answer scion_whole_packet_reply_checked(uint8_t *packet, size_t len) {
+    return packet ? scion_whole_packet_reply(packet, len) : scion_bad_call();
+}
+
 /* scion_header_check; SCION_BAD_CALL where the pointer is null. */
 static inline scion_answer scion_header_check_checked(const uint8_t *bytes, size_t len) {
     return bytes ? scion_header_check(bytes, len) : scion_bad_call();
@@ -143,6 +182,10 @@ static inline scion_text scion_verify_checked(const uint8_t *request, size_t req
 
 #define scion_step scion_step_checked
 #define scion_step_all scion_step_all_checked
+#define scion_whole_packet_step scion_whole_packet_step_checked
+#define scion_whole_packet_read scion_whole_packet_read_checked
+#define scion_whole_packet_write scion_whole_packet_write_checked
+#define scion_whole_packet_reply scion_whole_packet_reply_checked
 #define scion_header_check scion_header_check_checked
 #define scion_header_reverse scion_header_reverse_checked
 #define scion_hop_mac scion_hop_mac_checked

@@ -43,6 +43,7 @@ export const Code = Object.freeze({
   SEG_LENS: 24,
   TOO_MANY_HOPS: 25,
   BAD_INDEX: 26,
+  PACKET_ROOM_TOO_SMALL: 27,
   BAD_HEADER: 90,
   INDEX_MISMATCH: 91,
   WRONG_INGRESS: 92,
@@ -54,16 +55,24 @@ export const Code = Object.freeze({
   UNKNOWN_EGRESS: 98,
   LINK_KINDS: 99,
   LINK_DOWN: 100,
+  SHORT_PACKET: 160,
+  BAD_VERSION: 161,
+  BAD_PATH_TYPE: 162,
+  BAD_HEADER_LENGTH: 163,
+  BAD_PAYLOAD_LENGTH: 164,
+  PAYLOAD_TOO_LARGE: 165,
 });
 
 const NAMES = new Map(Object.entries(Code).map(([name, code]) => [code, name]));
 
-/** A call was refused for all of its packets, or has no value to return. */
+/** A call was refused for all of its packets, or has no value to return. At BAD_HEADER `header` is
+ * the refusal of the path header, and else 0. */
 export class Refused extends Error {
-  constructor(code) {
-    super(`${code} ${NAMES.get(code)}`);
+  constructor(code, header = 0) {
+    super([code, header].filter(Boolean).map((it) => `${it} ${NAMES.get(it)}`).join(" "));
     this.name = "Refused";
     this.code = code;
+    this.header = header;
   }
 }
 
@@ -78,9 +87,9 @@ function whole(name, value, bits) {
 }
 
 /** An address of an AS, a BigInt of 64 bits. */
-function address(ia) {
+function address(ia, name = "ia") {
   if (typeof ia !== "bigint" || BigInt.asUintN(64, ia) !== ia) {
-    throw new RangeError(`ia is ${ia}, which is no BigInt of 64 bits`);
+    throw new RangeError(`${name} is ${ia}, which is no BigInt of 64 bits`);
   }
   return ia;
 }
@@ -96,6 +105,59 @@ function row({ number, kind, router = 0, up = true }) {
   whole("number", number, 16);
   const own = [whole("kind", kind, 8), whole("router", router, 8), whole("up", Number(up), 8)];
   return [number & 255, number >> 8, ...own, 0];
+}
+
+// A scion_packet_info has 62 bytes and two behind them; its hosts are at 26 and 44.
+const INFO_LENGTH = 64;
+const HOST_PLACES = [26, 44];
+
+// The most bytes of the headers in front of a path header.
+const MAX_FRONT_LENGTH = 60;
+
+/** What is read of a host's address: its type, and its bytes. */
+function hostRead(name, { kind, bytes }) {
+  return [whole(`the type of ${name}`, kind, 8), copy(name, bytes)];
+}
+
+/** A scion_packet_info of what a packet says. */
+function infoRow(info) {
+  const { destination, source, nextHeader, trafficClass = 0, flowId = 0, reserved = 0 } = info;
+  const hosts = [
+    hostRead("destinationHost", info.destinationHost),
+    hostRead("sourceHost", info.sourceHost),
+  ];
+  const bytes = new Uint8Array(INFO_LENGTH);
+  const view = new DataView(bytes.buffer);
+  view.setBigUint64(0, address(destination, "destination"), true);
+  view.setBigUint64(8, address(source, "source"), true);
+  view.setUint32(16, whole("flowId", flowId, 32), true);
+  view.setUint16(20, whole("reserved", reserved, 16), true);
+  view.setUint8(24, whole("trafficClass", trafficClass, 8));
+  view.setUint8(25, whole("nextHeader", nextHeader, 8));
+  hosts.forEach(([kind, data], i) => {
+    // An address of more than 16 bytes is refused by its length.
+    bytes.set([kind, Math.min(data.length, 255), ...data.subarray(0, 16)], HOST_PLACES[i]);
+  });
+  return bytes;
+}
+
+/** What a packet says, from a scion_packet_info; and where its path header begins. */
+function infoOf(bytes) {
+  const view = new DataView(bytes.buffer);
+  const [destinationHost, sourceHost] = HOST_PLACES.map((at) => {
+    return { kind: bytes[at], bytes: bytes.slice(at + 2, at + 2 + bytes[at + 1]) };
+  });
+  const info = {
+    destination: view.getBigUint64(0, true),
+    source: view.getBigUint64(8, true),
+    destinationHost,
+    sourceHost,
+    nextHeader: bytes[25],
+    trafficClass: bytes[24],
+    flowId: view.getUint32(16, true),
+    reserved: view.getUint16(20, true),
+  };
+  return [info, view.getUint16(22, true)];
 }
 
 /** The part of the memory in which the arguments of a call are: what the module does not use. */
@@ -165,7 +227,9 @@ function packetRead({ bytes, arrival = Arrival.FROM_HOST, interface: number = 0 
 }
 
 /** The calls of a module. A router is `{ ia, key, interfaces, previous, router }`, whose interfaces
- * are `{ number, kind, router, up }`; a packet is `{ bytes, arrival, interface }`. */
+ * are `{ number, kind, router, up }`; a packet is `{ bytes, arrival, interface }`. A whole packet
+ * is `{ info, path, payload }`, whose info is `{ destination, source, destinationHost, sourceHost,
+ * nextHeader, trafficClass, flowId, reserved }`; a host is `{ kind, bytes }`. */
 export class Library {
   #calls;
   #arena;
@@ -183,12 +247,21 @@ export class Library {
   /** One step of a router on a packet, at the second `now`: the code, the number and the bytes
    * after it. */
   step(router, now, packet) {
+    return this.#step(this.#calls.scion_step, router, now, packet);
+  }
+
+  /** The same step on a packet whose bytes are a whole packet. */
+  wholePacketStep(router, now, packet) {
+    return this.#step(this.#calls.scion_whole_packet_step, router, now, packet);
+  }
+
+  #step(call, router, now, packet) {
     const [bytes, ...came] = packetRead(packet);
     const [own, second] = [routerRead(router), whole("now", now, 32)];
     return this.#arena.within((arena) => {
       const words = [parts(arena, own), arena.put(bytes), arena.put([0, 0, 0, 0])];
       const [at, room, answer] = words.map(BigInt);
-      this.#calls.scion_step(answer, at, second, ...came, room, BigInt(bytes.length));
+      call(answer, at, second, ...came, room, BigInt(bytes.length));
       return { ...arena.answer(words[2]), bytes: arena.bytes(words[1], bytes.length) };
     });
   }
@@ -214,6 +287,40 @@ export class Library {
         return { ...arena.answer(table + 24 * i + 18), bytes: arena.bytes(rooms[i], bytes.length) };
       });
     });
+  }
+
+  /** The whole packet that these bytes are; Refused if they are none. */
+  wholePacketRead(bytes) {
+    const data = copy("bytes", bytes);
+    return this.#arena.within((arena) => {
+      const places = [arena.put([0, 0, 0, 0]), arena.put(data)];
+      const record = arena.put(new Uint8Array(INFO_LENGTH));
+      const [answer, room] = places.map(BigInt);
+      const length = BigInt(data.length);
+      this.#calls.scion_whole_packet_read(answer, room, length, BigInt(record));
+      const end = done(arena.answer(places[0]));
+      const [info, start] = infoOf(arena.bytes(record, INFO_LENGTH));
+      return { info, path: data.slice(start, end), payload: data.slice(end) };
+    });
+  }
+
+  /** The bytes of a whole packet; Refused if it has none. */
+  wholePacketWrite({ info, path, payload }) {
+    const given = [infoRow(info), copy("path", path), copy("payload", payload)];
+    const length = MAX_FRONT_LENGTH + given[1].length + given[2].length;
+    return this.#arena.within((arena) => {
+      const answer = arena.put([0, 0, 0, 0]);
+      const [record, ...slices] = given.map((it) => [arena.put(it), it.length]);
+      const room = arena.put(new Uint8Array(length));
+      const words = [answer, record[0], ...slices.flat(), room, length].map(BigInt);
+      this.#calls.scion_whole_packet_write(...words);
+      return arena.bytes(room, done(arena.answer(answer)) + given[2].length);
+    });
+  }
+
+  /** The reply to a whole packet, with its payload; Refused if the bytes are none. */
+  wholePacketReply(bytes) {
+    return this.#header(this.#calls.scion_whole_packet_reply, bytes).bytes;
   }
 
   /** The length of the path header at the front; Refused if there is none. */
@@ -258,7 +365,7 @@ export class Library {
 
 /** The number of an answer that is no refusal. */
 function done({ code, number }) {
-  if (code !== 0) throw new Refused(code);
+  if (code !== 0) throw new Refused(code, number);
   return number;
 }
 

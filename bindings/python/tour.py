@@ -10,12 +10,18 @@ import sys
 import threading
 import time
 
-from scion import MAX_REQUEST, Arrival, Code, Interface, Kind, Library, Packet, Refused, Router
+from scion import MAX_REQUEST, Arrival, Code, Host, Interface, Kind, Library, Packet, PacketInfo
+from scion import Refused, Router, WholePacket
 
 AT_111, AT_110 = 0x0001FF0000000111, 0x0001FF0000000110
 ADDRESSES = "0001ff00000001100001ff0000000111"
 OWN_HOP, NEXT_HOP = "003f00020000", "003f00000001"
 RIGHT, OTHER = "110e4c1d3dad", "b1b2b3b4b5b6"
+
+# A whole packet in front of its hosts, and the reply to it.
+FRONT = "0b8abcde11150003010312340001ff00000001100001ff0000000111"
+FRONT_BACK = "0b8abcde11150003013012340001ff00000001110001ff0000000110"
+IPV4, IPV6 = "0a000001", "20010db8000000000000000000000001"
 PARENT, DOWN = Interface(2, Kind.PARENT), Interface(2, Kind.PARENT, up=False)
 
 
@@ -133,6 +139,35 @@ class Tour:
         self.refuses("no mac", Code.BAD_FIELD, library.hop_mac, b"", 0xB396, 100, 63, 2, 0)
         nobody = Router(AT_111, b"", [PARENT])
         self.refuses("no router", Code.BAD_FIELD, library.step_all, nobody, 100, [])
+
+    def whole(self):
+        """A whole packet by hand, whose hosts have addresses of different lengths."""
+        library, path = self.library, SENT[16:]
+        hosts = Host(0, bytes.fromhex(IPV4)), Host(0, bytes.fromhex(IPV6))
+        info = PacketInfo(AT_110, AT_111, *hosts, 17, 0xB8, 0xABCDE, 0x1234)
+        packet, data = WholePacket(info, path, b"hi!"), bytes.fromhex(FRONT + IPV4 + IPV6) + path
+        self.expect("written", library.whole_packet_write(packet), data + b"hi!")
+        self.expect("read", library.whole_packet_read(data + b"hi!"), packet)
+        back = FRONT_BACK + IPV6 + IPV4 + f"010020000100b39600000064{NEXT_HOP}a1a2a3a4a5a6"
+        answer = bytes.fromhex(back + OWN_HOP + RIGHT) + b"hi!"
+        self.expect("reply", library.whole_packet_reply(data + b"hi!"), answer)
+        self.expect("reply again", library.whole_packet_reply(answer), data + b"hi!")
+        changes = {"flow_id": 1 << 20, "source_host": Host(4, b"host"),
+                   "destination_host": Host(0, bytes(20))}
+        for what, value in changes.items():
+            odd = WholePacket(info._replace(**{what: value}), path[:35], bytes(65536))
+            self.refuses(what, Code.BAD_FIELD, library.whole_packet_write, odd)
+        short, large = packet._replace(path=path[:35]), packet._replace(payload=bytes(65536))
+        self.refuses("path", Code.BAD_HEADER, library.whole_packet_write, short)
+        self.refuses("payload", Code.PAYLOAD_TOO_LARGE, library.whole_packet_write, large)
+        self.refuses("no packet", Code.BAD_PAYLOAD_LENGTH, library.whole_packet_read, data)
+        self.refuses("no reply", Code.BAD_PAYLOAD_LENGTH, library.whole_packet_reply, data)
+        at111, step = Router(AT_111, b"k", [PARENT]), library.whole_packet_step
+        gone = Code.TO_LINK, 2, data[:48] + b"\x01" + data[49:] + b"hi!"
+        self.expect("step", step(at111, 100, Packet(data + b"hi!")), gone)
+        self.raises("whole packet", TypeError, library.whole_packet_read, "text")
+        self.raises("wide flow", ValueError, library.whole_packet_write,
+                    packet._replace(info=info._replace(flow_id=1 << 32)))
 
     def raises(self, what, fault, call, *words):
         """A call whose arguments don't fit, which ctypes would have cut."""
@@ -387,6 +422,7 @@ def main():
     tour.turns()
     tour.hostile()
     tour.headers()
+    tour.whole()
     tour.unfit()
     tour.copied()
     tour.row()

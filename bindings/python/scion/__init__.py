@@ -19,12 +19,15 @@ __all__ = [
     "Answer",
     "Arrival",
     "Code",
+    "Host",
     "Interface",
     "Kind",
     "Library",
     "Packet",
+    "PacketInfo",
     "Refused",
     "Router",
+    "WholePacket",
 ]
 
 __version__ = "0.1.0"
@@ -68,6 +71,7 @@ class Code(enum.IntEnum):
     SEG_LENS = 24
     TOO_MANY_HOPS = 25
     BAD_INDEX = 26
+    PACKET_ROOM_TOO_SMALL = 27
     BAD_HEADER = 90
     INDEX_MISMATCH = 91
     WRONG_INGRESS = 92
@@ -79,6 +83,12 @@ class Code(enum.IntEnum):
     UNKNOWN_EGRESS = 98
     LINK_KINDS = 99
     LINK_DOWN = 100
+    SHORT_PACKET = 160
+    BAD_VERSION = 161
+    BAD_PATH_TYPE = 162
+    BAD_HEADER_LENGTH = 163
+    BAD_PAYLOAD_LENGTH = 164
+    PAYLOAD_TOO_LARGE = 165
 
 
 class Interface(NamedTuple):
@@ -109,6 +119,36 @@ class Packet(NamedTuple):
     interface: int = 0
 
 
+class Host(NamedTuple):
+    """The address of a host: its type, 0 to 3, and 4, 8, 12 or 16 bytes. Type 0 is IPv4 with 4
+    bytes and IPv6 with 16, type 1 with 4 bytes a service."""
+
+    kind: int
+    bytes: Bytes
+
+
+class PacketInfo(NamedTuple):
+    """What a whole packet says besides its path and its payload. `destination` and `source` are
+    ASes; `flow_id` is below 2^20; `next_header` tells with what the payload begins."""
+
+    destination: int
+    source: int
+    destination_host: Host
+    source_host: Host
+    next_header: int
+    traffic_class: int = 0
+    flow_id: int = 0
+    reserved: int = 0
+
+
+class WholePacket(NamedTuple):
+    """A packet as it is on the wire: what it says, the bytes of its path header, its payload."""
+
+    info: PacketInfo
+    path: Bytes
+    payload: Bytes
+
+
 class Answer(NamedTuple):
     """The answer to a step: its code, its number, and the bytes of the packet after it."""
 
@@ -118,11 +158,13 @@ class Answer(NamedTuple):
 
 
 class Refused(Exception):
-    """A call was refused for all of its packets, or has no value to return."""
+    """A call was refused for all of its packets, or has no value to return. At BAD_HEADER `header`
+    is the refusal of the path header."""
 
-    def __init__(self, code: Code) -> None:
-        super().__init__(f"{code.value} {code.name}")
-        self.code = code
+    def __init__(self, code: Code, header: Optional[Code] = None) -> None:
+        codes = [code] if header is None else [code, header]
+        super().__init__(" ".join(f"{it.value} {it.name}" for it in codes))
+        self.code, self.header = code, header
 
 
 class _Answer(ctypes.Structure):
@@ -165,6 +207,28 @@ class _Text(ctypes.Structure):
     _fields_ = [("status", ctypes.c_uint16), ("len", ctypes.c_size_t)]
 
 
+class _Host(ctypes.Structure):
+    _fields_ = [
+        ("kind", ctypes.c_uint8),
+        ("len", ctypes.c_uint8),
+        ("bytes", ctypes.c_uint8 * 16),
+    ]
+
+
+class _PacketInfo(ctypes.Structure):
+    _fields_ = [
+        ("destination", ctypes.c_uint64),
+        ("source", ctypes.c_uint64),
+        ("flow_id", ctypes.c_uint32),
+        ("reserved", ctypes.c_uint16),
+        ("path_start", ctypes.c_uint16),
+        ("traffic_class", ctypes.c_uint8),
+        ("next_header", ctypes.c_uint8),
+        ("destination_host", _Host),
+        ("source_host", _Host),
+    ]
+
+
 _MAC = ctypes.c_uint8 * 6
 
 _SLICE = [ctypes.c_char_p, ctypes.c_size_t]
@@ -179,6 +243,16 @@ _CALLS = {
         [ctypes.POINTER(_Router), ctypes.c_uint32, ctypes.POINTER(_Packet), ctypes.c_size_t],
         _Answer,
     ),
+    "scion_whole_packet_step": (
+        [ctypes.POINTER(_Router), ctypes.c_uint32, ctypes.c_uint8, ctypes.c_uint16, *_SLICE],
+        _Answer,
+    ),
+    "scion_whole_packet_read": ([*_SLICE, ctypes.POINTER(_PacketInfo)], _Answer),
+    "scion_whole_packet_write": (
+        [ctypes.POINTER(_PacketInfo), *_SLICE, *_SLICE, *_SLICE],
+        _Answer,
+    ),
+    "scion_whole_packet_reply": (_SLICE, _Answer),
     "scion_header_check": (_SLICE, _Answer),
     "scion_header_reverse": (_SLICE, _Answer),
     "scion_hop_mac": (
@@ -235,6 +309,43 @@ def _row(it: Interface) -> _Interface:
     )
 
 
+def _host(name: str, it: Host) -> _Host:
+    """The record of a host's address; one of more than 16 bytes is as refused as it."""
+    data = _copy(name, it.bytes)
+    kept = (ctypes.c_uint8 * 16)(*data[:16])
+    return _Host(_whole(f"the type of {name}", it.kind, 8), min(len(data), 255), kept)
+
+
+def _read_host(it: _Host) -> Host:
+    return Host(it.kind, bytes(it.bytes[: it.len]))
+
+
+def _info(it: PacketInfo) -> _PacketInfo:
+    return _PacketInfo(
+        destination=_whole("destination", it.destination, 64),
+        source=_whole("source", it.source, 64),
+        flow_id=_whole("flow_id", it.flow_id, 32),
+        reserved=_whole("reserved", it.reserved, 16),
+        traffic_class=_whole("traffic_class", it.traffic_class, 8),
+        next_header=_whole("next_header", it.next_header, 8),
+        destination_host=_host("destination_host", it.destination_host),
+        source_host=_host("source_host", it.source_host),
+    )
+
+
+def _read_info(it: _PacketInfo) -> PacketInfo:
+    return PacketInfo(
+        it.destination,
+        it.source,
+        _read_host(it.destination_host),
+        _read_host(it.source_host),
+        it.next_header,
+        it.traffic_class,
+        it.flow_id,
+        it.reserved,
+    )
+
+
 def _parts(router: Router) -> _Router:
     """The record of a router, which also keeps alive what it points to."""
     rows = [_row(it) for it in router.interfaces]
@@ -265,9 +376,40 @@ class Library:
 
     def step(self, router: Router, now: int, packet: Packet) -> Answer:
         """One step of a router on a packet, at the second `now`."""
+        return self._stepped(self._calls.scion_step, router, now, packet)
+
+    def whole_packet_step(self, router: Router, now: int, packet: Packet) -> Answer:
+        """The same step on a packet whose bytes are a whole packet."""
+        return self._stepped(self._calls.scion_whole_packet_step, router, now, packet)
+
+    def whole_packet_read(self, data: Bytes) -> WholePacket:
+        """The whole packet that these bytes are; `Refused` if they are none."""
+        data, info = _copy("data", data), _PacketInfo()
+        given = self._calls.scion_whole_packet_read(data, len(data), info)
+        start = self._done(given)
+        return WholePacket(_read_info(info), data[info.path_start : start], data[start:])
+
+    def whole_packet_write(self, packet: WholePacket) -> bytes:
+        """The bytes of a whole packet; `Refused` if it has none."""
+        info, path = _info(packet.info), _copy("path", packet.path)
+        payload = _copy("payload", packet.payload)
+        room = _room(bytes(60 + len(path) + len(payload)))
+        slices = [it for data in (path, payload, room) for it in (data, len(data))]
+        given = self._calls.scion_whole_packet_write(info, *slices)
+        return room.raw[: self._done(given) + len(payload)]
+
+    def whole_packet_reply(self, data: Bytes) -> bytes:
+        """The reply to a whole packet, with its payload; `Refused` if the bytes are none."""
+        data = _copy("data", data)
+        room = _room(data)
+        self._done(self._calls.scion_whole_packet_reply(room, len(data)))
+        return room.raw[: len(data)]
+
+    @staticmethod
+    def _stepped(call: Any, router: Router, now: int, packet: Packet) -> Answer:
         data, now = _copy("packet", packet.bytes), _whole("now", now, 32)
         room = _room(data)
-        given = self._calls.scion_step(_parts(router), now, *_way_in(packet), room, len(data))
+        given = call(_parts(router), now, *_way_in(packet), room, len(data))
         return Answer(Code(given.code), given.number, room.raw[: len(data)])
 
     def step_all(self, router: Router, now: int, packets: Iterable[Packet]) -> List[Answer]:
@@ -344,5 +486,5 @@ class Library:
     @staticmethod
     def _done(given: _Answer) -> int:
         if given.code:
-            raise Refused(Code(given.code))
+            raise Refused(Code(given.code), Code(given.number) if given.number else None)
         return given.number

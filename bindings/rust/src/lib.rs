@@ -2,7 +2,7 @@
 //! A router, path headers, authenticators and paths of SCION, over a proved library.
 //!
 //! A step of a router takes a packet in place. A packet is 8 bytes of destination, 8 of source, a
-//! path header and a payload.
+//! path header and a payload; [`Router::whole_packet_step`] takes packets with all their headers.
 //!
 //! ```
 //! use scion::{Arrival, Interface, Kind, Outcome, Refusal, Router};
@@ -30,8 +30,10 @@
 
 pub mod raw;
 mod refusal;
+mod whole;
 
 pub use refusal::{HeaderFault, Refusal};
+pub use whole::{whole_packet_reply, Host, PacketFault, PacketInfo, TurnRefusal, WholePacket};
 
 use std::marker::PhantomData;
 

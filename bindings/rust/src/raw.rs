@@ -19,6 +19,7 @@ pub const SCION_ALERT_FLAG: u16 = 23;
 pub const SCION_SEG_LENS: u16 = 24;
 pub const SCION_TOO_MANY_HOPS: u16 = 25;
 pub const SCION_BAD_INDEX: u16 = 26;
+pub const SCION_PACKET_ROOM_TOO_SMALL: u16 = 27;
 pub const SCION_BAD_HEADER: u16 = 90;
 pub const SCION_INDEX_MISMATCH: u16 = 91;
 pub const SCION_WRONG_INGRESS: u16 = 92;
@@ -30,6 +31,12 @@ pub const SCION_SWITCH_INSIDE: u16 = 97;
 pub const SCION_UNKNOWN_EGRESS: u16 = 98;
 pub const SCION_LINK_KINDS: u16 = 99;
 pub const SCION_LINK_DOWN: u16 = 100;
+pub const SCION_SHORT_PACKET: u16 = 160;
+pub const SCION_BAD_VERSION: u16 = 161;
+pub const SCION_BAD_PATH_TYPE: u16 = 162;
+pub const SCION_BAD_HEADER_LENGTH: u16 = 163;
+pub const SCION_BAD_PAYLOAD_LENGTH: u16 = 164;
+pub const SCION_PAYLOAD_TOO_LARGE: u16 = 165;
 
 pub const SCION_CORE: u8 = 0;
 pub const SCION_PARENT: u8 = 1;
@@ -98,6 +105,35 @@ pub struct Packet<'a> {
     pub of: PhantomData<&'a mut [u8]>,
 }
 
+/// The address of a host.
+#[repr(C)]
+#[derive(Clone, Copy, Debug, Default)]
+pub struct Host {
+    /// Its type, 0 to 3.
+    pub kind: u8,
+    /// 4, 8, 12 or 16.
+    pub len: u8,
+    /// The first `len` of them.
+    pub bytes: [u8; 16],
+}
+
+/// What a whole packet says besides its path and its payload.
+#[repr(C)]
+#[derive(Clone, Copy, Debug, Default)]
+pub struct PacketInfo {
+    pub destination: u64,
+    pub source: u64,
+    /// Below 2^20.
+    pub flow_id: u32,
+    pub reserved: u16,
+    /// Where the path header begins; not looked at by a call that writes.
+    pub path_start: u16,
+    pub traffic_class: u8,
+    pub next_header: u8,
+    pub destination_host: Host,
+    pub source_host: Host,
+}
+
 /// What happened to an answer that was to be written.
 #[cfg(feature = "paths")]
 #[repr(C)]
@@ -125,6 +161,29 @@ unsafe extern "C" {
         packets: *mut Packet<'_>,
         len: usize,
     ) -> Answer;
+    /// One step of a router on a whole packet, in place.
+    pub fn scion_whole_packet_step(
+        router: *const Router,
+        now: u32,
+        arrival: u8,
+        interface: u16,
+        packet: *mut u8,
+        len: usize,
+    ) -> Answer;
+    /// Writes what a whole packet says.
+    pub fn scion_whole_packet_read(packet: *const u8, len: usize, info: *mut PacketInfo) -> Answer;
+    /// Writes a whole packet to the front of a room.
+    pub fn scion_whole_packet_write(
+        info: *const PacketInfo,
+        path: *const u8,
+        path_len: usize,
+        payload: *const u8,
+        payload_len: usize,
+        room: *mut u8,
+        room_len: usize,
+    ) -> Answer;
+    /// Replaces a whole packet by the reply to it.
+    pub fn scion_whole_packet_reply(packet: *mut u8, len: usize) -> Answer;
     /// Whether these bytes begin with a path header.
     pub fn scion_header_check(bytes: *const u8, len: usize) -> Answer;
     /// Replaces the path header at the front by that of the way back.

@@ -31,7 +31,7 @@ impl HeaderFault {
         self as u16
     }
 
-    fn from_code(code: u16) -> Self {
+    pub(crate) fn from_code(code: u16) -> Self {
         match code {
             raw::SCION_SHORT => Self::Short,
             raw::SCION_RESERVED => Self::Reserved,

@@ -23,6 +23,7 @@ use Rattle.router_step.specs.Done.{Situation, DoesStep, at_the_way_out}
 use Rattle.router_step.proofs.Frames.{frame_stepped}
 use Rattle.router_step.proofs.StepLaws.{new_header, over_own_link, to_owner}
 use Rattle.router_step.proofs.Continuing.{header_again}
+use Rattle.router_step.proofs.Fits.{fits_again}
 use Rattle.forwarding.specs.declared.location.RouterStop.{RouterStop}
 use Rattle.forwarding.specs.declared.location.PacketLocation.TheVariants.{AtRouter}
 use Rattle.forwarding.specs.Frame.{addresses, frame_of}
@@ -30,7 +31,7 @@ use Rattle.policy_expr.specs.declared.hop.WalkHop.{WalkHop}
 use Rattle.forwarding.specs.Turn.{Packet, IsAtNoRouter, put_at, with_passed_hop, hop_by, after_outcome, over_link, at_owner, at_place, after_step, turn_under, turned_packet, after}
 use Rattle.forwarding.proofs.Ended.{ended_stays, turn_by_view}
 use Rattle.forwarding.proofs.Framed.{is_frame}
-use Rattle.forwarding.proofs.Onward.{Owns, way_of, fits_again, leaves_from_inside, IsSeen, seen_as, entry_there, leads_on, owner_is_there}
+use Rattle.forwarding.proofs.Onward.{Owns, way_of, leaves_from_inside, IsSeen, seen_as, entry_there, leads_on, owner_is_there}
 use Rattle.forwarding.proofs.Routers.{view_for}
 
 -- ---- how far a packet is from its end

@@ -1,8 +1,7 @@
 -- The header of a packet on its path is one of the grammar, and its numbers fit.
-use Rattle.std.proofs.Common.{◌≡◌, ℕ, zero, suc, ◌+◌, ◌*◌, ◌-◌, ◌^◌, ◌<◌, Bool, true, false, if◌then◌else◌, List, [], ◌∷◌, ◌++◌, length, get_or, map, Some, refl, ap, ◌∙◌, subst, arith}
-use Rattle.std.specs.Prelude.{slice_get, slice_index}
+use Rattle.std.proofs.Common.{◌≡◌, ℕ, zero, suc, ◌+◌, ◌-◌, ◌^◌, ◌<◌, List, [], ◌∷◌, ◌++◌, length, get_or, map, Some, refl, ap, ◌∙◌, subst, arith}
+use Rattle.std.specs.Prelude.{slice_get}
 use Rattle.std.specs.List.{flat_map, AllByRecursion}
-use Rattle.std.proofs.lemmas.Nat.{xor_lt}
 use Rattle.std.proofs.lemmas.Option.{slice_get-get_or}
 use Rattle.hop_mac.specs.Hop.{beta_after}
 use Rattle.path_segment.specs.declared.entry.Entry.{Entry}
@@ -17,7 +16,8 @@ use Rattle.path_verifier.specs.Header as path
 use Rattle.path_verifier.proofs.Headers.{field_there}
 use Rattle.router_step.specs.declared.arrival.Arrival.{Arrival}
 use Rattle.router_step.specs.declared.arrival.Arrival.TheVariants.{FromHost, Inside, Link}
-use Rattle.router_step.specs.Place.{seg_id_on_arrival, seg_id_on_leaving}
+use Rattle.router_step.specs.Place.{seg_id_on_arrival}
+use Rattle.router_step.proofs.Fits.{chosen, stepped, on_leaving, all_there}
 use Rattle.forwarding.specs.PathPosition.{PathPosition, pieces_at, beta_at, beta_before, info_left, header_with}
 use Rattle.forwarding.specs.OnPath.{header_on}
 use Rattle.forwarding.proofs.Betas.{settled, onward}
@@ -27,35 +27,13 @@ use Rattle.forwarding.proofs.AtSpot.{IsSpot, within_piece, hops_of_spot}
 
 -- ---- accumulators have 16 bits
 
-pub chosen : (b : Bool) (x y : ℕ) → x < 2 ^ 16 → y < 2 ^ 16 → (if b then x else y) < 2 ^ 16
-chosen true x y one other = one
-chosen false x y one other = other
-
-pub stepped : (beta : ℕ) (hop : HopField) → beta < 2 ^ 16 → HopFits hop
-    → beta_after beta hop.mac < 2 ^ 16
-stepped beta hop small fits =
-    let high = fits.mac 0 in
-    let low = fits.mac 1 in
-    xor_lt 16 beta (slice_index hop.mac 0 * 256 + slice_index hop.mac 1) small (omega arith)
-
 on_arrival : (interface : ℕ) (info : InfoField) (hop : HopField) → info.seg_id < 2 ^ 16
     → HopFits hop
     → seg_id_on_arrival (Link interface) info hop < 2 ^ 16
 on_arrival interface info hop small fits =
     chosen _ (beta_after info.seg_id hop.mac) info.seg_id (stepped info.seg_id hop small fits) small
 
-pub on_leaving : (info : InfoField) (hop : HopField) → info.seg_id < 2 ^ 16 → HopFits hop
-    → seg_id_on_leaving info hop < 2 ^ 16
-on_leaving info hop small fits =
-    chosen _ (beta_after info.seg_id hop.mac) info.seg_id (stepped info.seg_id hop small fits) small
-
 -- ---- what holds of each of a list
-
-pub all_there : {X : Type 0} (P : X → Type 0) (xs : List X) (i : ℕ) (x : X) → AllByRecursion P xs
-    → slice_get xs i ≡ Some x → P x
-all_there P [] i x all there = absurd cc
-all_there P (y ∷ ys) zero x all there = let is : y ≡ x = cc in subst P is all.0
-all_there P (y ∷ ys) (suc i) x all there = all_there P ys i x all.1 there
 
 all_front : {X : Type 0} (P : X → Type 0) (xs ys : List X) → AllByRecursion P (xs ++ ys)
     → AllByRecursion P xs

@@ -108,14 +108,14 @@ carried_kept p sent total done old new event reply is keeps c = record {
 
 -- ---- a turn of it
 
-set_there : {A : Type 0} (xs : List A) (k : ℕ) (x y : A) → slice_get xs k ≡ Some x
+pub set_there : {A : Type 0} (xs : List A) (k : ℕ) (x y : A) → slice_get xs k ≡ Some x
     → slice_get (set xs k y) k ≡ Some y
 set_there [] k x y there = absurd cc
 set_there (z ∷ xs) zero x y there = refl
 set_there (z ∷ xs) (suc k) x y there = set_there xs k x y there
 
 -- the packet of the number, in flight or not
-flying : (net : NetValue) (p : ℕ) (packet : PacketValue) (r : Result (Unit {0}) EventFault)
+pub flying : (net : NetValue) (p : ℕ) (packet : PacketValue) (r : Result (Unit {0}) EventFault)
     → slice_get net.packets p ≡ Some packet → is_in_flight packet.packet.place ≡ r
     → flying_at net p ≡ (r >>= λ _. Ok packet)
 flying net p packet r there at =
@@ -135,14 +135,14 @@ abbrev turned_net : NetValue → ℕ → PacketValue → NetValue
 turned_net net p packet =
     with_packet net p packet (turn_of net.network net.moment packet.packet).1
 
-leads_ok : (made : Made) (old new : NetValue) (reply : Reply) (done : Reply × NetValue)
+pub leads_ok : (made : Made) (old new : NetValue) (reply : Reply) (done : Reply × NetValue)
     → made ≡ Ok done → Leads made old reply new → (reply ≡ done.0) × (new ≡ done.1)
 leads_ok (Ok x) old new reply done is leads =
     let same : x ≡ done = cc in
     (leads.0 ∙ ap (λ (d : Reply × NetValue). d.0) same, leads.1 ∙ ap (λ (d : Reply × NetValue). d.1) same)
 leads_ok (Err fault) old new reply done is leads = absurd cc
 
-leads_err : (made : Made) (old new : NetValue) (reply : Reply) (fault : EventFault)
+pub leads_err : (made : Made) (old new : NetValue) (reply : Reply) (fault : EventFault)
     → made ≡ Err fault → Leads made old reply new → new ≡ old
 leads_err (Ok x) old new reply fault is leads = absurd cc
 leads_err (Err other) old new reply fault is leads = leads.1
@@ -195,16 +195,16 @@ turn_carried p sent total done old new reply is through c = elim c.state [
 
 -- ---- an event that was not done changes nothing
 
-abbrev AreDone : Made → Type 0
+abbrev pub AreDone : Made → Type 0
 AreDone (Ok made) = is_done made.0 ≡ true
 AreDone (Err fault) = Unit {0}
 
-then_done : {A : Type 0} (r : Result A EventFault) (f : A → Made) → ((x : A) → AreDone (f x))
+pub then_done : {A : Type 0} (r : Result A EventFault) (f : A → Made) → ((x : A) → AreDone (f x))
     → AreDone (r >>= f)
 then_done (Ok x) f each = each x
 then_done (Err fault) f each = tt
 
-not_done : (made : Made) (old new : NetValue) (reply : Reply) → Leads made old reply new
+pub not_done : (made : Made) (old new : NetValue) (reply : Reply) → Leads made old reply new
     → AreDone made → (is_done reply ≡ true → ⊥) → new ≡ old
 not_done (Ok made) old new reply is done never = absurd (never (ap is_done is.0 ∙ done))
 not_done (Err fault) old new reply is done never = is.1

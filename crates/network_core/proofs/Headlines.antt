@@ -32,13 +32,13 @@ none_left : (start : NetValue) (j : ℕ) → net_at start [] j ≡ start
 none_left start zero = refl
 none_left start (suc j) = refl
 
-history_drop : (start : NetValue) (history : List EventRecord) (n : ℕ) → IsHistory start history
+pub history_drop : (start : NetValue) (history : List EventRecord) (n : ℕ) → IsHistory start history
     → IsHistory (net_at start history n) (drop n history)
 history_drop start history zero is = is
 history_drop start [] (suc n) is = tt
 history_drop start (m ∷ later) (suc n) is = history_drop m.net later n is.1
 
-net_drop : (start : NetValue) (history : List EventRecord) (n j : ℕ)
+pub net_drop : (start : NetValue) (history : List EventRecord) (n j : ℕ)
     → net_at (net_at start history n) (drop n history) j ≡ net_at start history (n + j)
 net_drop start history zero j = let same : j ≡ 0 + j = omega arith in ap (net_at start history) same
 net_drop start [] (suc n) j = none_left start j ∙ sym (none_left start (suc n + j))
@@ -46,7 +46,7 @@ net_drop start (m ∷ later) (suc n) j =
     let same : suc (n + j) ≡ suc n + j = omega arith in
     net_drop m.net later n j ∙ ap (net_at start (m ∷ later)) same
 
-there_drop : (history : List EventRecord) (n j : ℕ) → slice_get (drop n history) j ≡ slice_get history (n + j)
+pub there_drop : (history : List EventRecord) (n j : ℕ) → slice_get (drop n history) j ≡ slice_get history (n + j)
 there_drop history zero j = let same : j ≡ 0 + j = omega arith in ap (slice_get history) same
 there_drop [] (suc n) j = refl
 there_drop (m ∷ later) (suc n) j =

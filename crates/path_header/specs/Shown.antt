@@ -1,7 +1,8 @@
 -- The header with which bytes begin, and the tests for one.
 use Rattle.std.specs.Prelude.{ℕ, Bool, is_ok, List, [], Result, Ok, Err}
 use Rattle.path_header.specs.declared.fault.HeaderFault.{HeaderFault}
-use Rattle.path_header.specs.Value.{HeaderValue, lens_from}
+use Rattle.refusal.specs.Refusal.{◌>>=◌}
+use Rattle.path_header.specs.Value.{HeaderValue, header_len, lens_from}
 use Rattle.path_header.specs.Reading.{header_at}
 
 -- the same result without its value
@@ -22,3 +23,9 @@ read_or_none (Err fault) =
 -- the header with which these bytes begin, or a header without fields if they begin with none
 abbrev pub header_at_front : List ℕ → HeaderValue
 header_at_front bytes = read_or_none (header_at bytes)
+
+-- the length of the header with which these bytes begin, or why they begin with none
+abbrev pub len_at : List ℕ → Result ℕ HeaderFault
+len_at bytes = do
+  header ← header_at bytes
+  Ok (header_len header)

@@ -3,7 +3,7 @@ ghost use Rattle.path_header.specs.Value.{IsHeader, header_len};
 ghost use Rattle.path_header.specs.Spelling.{SpellsHeader};
 ghost use Rattle.path_header.specs.Shown.{has_header, header_at_front};
 
-use crate::checking::check;
+use crate::checking::{check, check_len};
 use crate::fault::HeaderFault;
 use crate::fields::{HopField, InfoField};
 use crate::lens::{HOP_LEN, INFO_LEN, META_LEN, SegLens};
@@ -35,13 +35,13 @@ pub struct HeaderMut<'a> {
 }
 
 impl<'a> HeaderMut<'a> {
-    ghost use Rattle.std.specs.Prelude.{◌≡◌, ℕ, ◌+◌, ◌*◌, ◌<◌, ◌≤◌, true, List, ◌++◌, length, take, drop, slice_get, slice_set, Some, IfOk};
+    ghost use Rattle.std.specs.Prelude.{◌≡◌, ℕ, ◌+◌, ◌*◌, ◌<◌, ◌≤◌, true, List, ◌++◌, length, take, drop, slice_get, slice_set, Some, IfOk, OnOk};
     ghost use Rattle.std.specs.Int.{w16, to_be_bytes};
     ghost use Rattle.refusal.specs.Refusal.{Gives};
     ghost use Rattle.path_header.specs.Value.{IsHeader, IsInSegment, header_len, segment_at};
     ghost use Rattle.path_header.specs.Spelling.{meta_of, SpellsHeader};
     ghost use Rattle.path_header.specs.Reading.{header_at};
-    ghost use Rattle.path_header.specs.Shown.{without_value, has_header};
+    ghost use Rattle.path_header.specs.Shown.{without_value, len_at, has_header, header_at_front};
     ghost use Rattle.path_header.specs.Borrowed.{bytes_of, value_of, rest_of};
 
     /// The header at the front of these bytes, which it borrows; with the refusals of
@@ -64,6 +64,16 @@ impl<'a> HeaderMut<'a> {
         ensures { result ≡ without_value (header_at bytes.now) }
     {
         check(bytes)
+    }
+
+    /// Checks as [`HeaderMut::check`] does, and returns the length of the header in bytes.
+    pub fn check_len(bytes: &[u8]) -> Result<usize, HeaderFault>
+        ensures exact { result ≡ len_at bytes.now }
+        ensures begins { OnOk result (has_header bytes.now ≡ true) }
+        ensures len { IfOk result (λ n. n ≡ header_len (header_at_front bytes.now)) }
+        ensures within { IfOk result (λ n. n ≤ length bytes.now) }
+    {
+        check_len(bytes)
     }
 
     /// The header at the front of these bytes, after a check found one there.

@@ -121,6 +121,10 @@ goes_on at outcome new h e =
 pub header_again : (at : Situation) (outcome : Outcome) (new : HeaderValue) → IsHeader at.header → DoesStep at outcome new → IsHeader new
 header_again at outcome new h e = (goes_on at outcome new h e).header
 
+pub lens_again : (at : Situation) (outcome : Outcome) (new : HeaderValue) → IsHeader at.header
+    → DoesStep at outcome new → new.lens ≡ at.header.lens
+lens_again at outcome new h e = (goes_on at outcome new h e).lens
+
 pub indices_again : (at : Situation) (outcome : Outcome) (new : HeaderValue) (arrival : Arrival) → IsHeader at.header → DoesStep at outcome new → arrival ≢ FromHost → indices_fit arrival new ≡ true
 indices_again at outcome new arrival h e from_outside =
     let on = goes_on at outcome new h e in

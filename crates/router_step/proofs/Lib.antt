@@ -8,3 +8,5 @@ pub mod Switched
 pub mod Computed
 pub mod Continuing
 pub mod Leaving
+pub mod InParts
+pub mod Fits

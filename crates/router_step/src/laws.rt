@@ -5,6 +5,7 @@ ghost use Rattle.hop_mac.specs.Hop.{beta_after};
 ghost use Rattle.scion_topology.specs.declared.entry.IfEntry.{IfEntry};
 ghost use Rattle.scion_topology.specs.View.{View, entry_of};
 ghost use Rattle.path_header.specs.Value.{HeaderValue, IsHeader};
+ghost use Rattle.path_header.specs.Spelling.{SpellsHeader, spelling};
 ghost use Rattle.router_step.specs.declared.arrival.Arrival.{Arrival};
 ghost use Rattle.router_step.specs.declared.outcome.Outcome.{Outcome};
 ghost use Rattle.router_step.specs.Place.{current_info, current_hop, is_over_link, way_out, moved_on, header_on_leaving};
@@ -107,6 +108,15 @@ pub fn indices_go_on()
     ensures indices { (at : Situation) (outcome : Outcome) (new : HeaderValue) (arrival : Arrival)
         → IsHeader at.header → DoesStep at outcome new → arrival ≢ Arrival.FromHost
         → indices_fit arrival new ≡ true }
+{}
+
+/// If a header has a spelling, so has the header after a step, and it takes the same room.
+pub fn spellings_go_on()
+    ensures spelled { (at : Situation) (outcome : Outcome) (new : HeaderValue) (text : List ℕ)
+        → SpellsHeader text at.header → DoesStep at outcome new
+        → SpellsHeader (spelling new) new }
+    ensures lens { (at : Situation) (outcome : Outcome) (new : HeaderValue)
+        → IsHeader at.header → DoesStep at outcome new → new.lens ≡ at.header.lens }
 {}
 
 /// If the checks succeed, the step does too. At the last hop of its path the packet is delivered.

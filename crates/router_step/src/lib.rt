@@ -17,5 +17,5 @@ mod route;
 pub use arrival::Arrival;
 pub use fault::Refusal;
 pub use outcome::Outcome;
-pub use packet::{ADDRESSES_LEN, destination_in, read_header, source_in, step};
+pub use packet::{ADDRESSES_LEN, destination_in, read_header, source_in, step, step_in_parts};
 pub use place::{seg_id_on_arrival, way_in, way_out};

@@ -46,9 +46,30 @@ pub fn step(
         in IsPacketStepped step packet.old packet.new result }
 {
     check_header(packet)?;
-    let source = source_in(packet);
-    let destination = destination_in(packet);
-    let (_, rest) = packet.split_at_mut(ADDRESSES_LEN);
+    let (addresses, rest) = packet.split_at_mut(ADDRESSES_LEN);
+    step_in_parts(view, now, arrival, addresses, rest)
+}
+
+/// The step on a packet in two parts: the addresses of destination and source, 16 bytes, and the
+/// bytes behind them, which have to begin with a path header ([`HeaderMut::check_len`] tells).
+///
+/// It answers as [`step`] does on the packet in one piece, and never [`Refusal::BadHeader`]. Only
+/// bytes of the path header change, and none after a refusal.
+pub fn step_in_parts(
+    view: &RouterView<'_>,
+    now: u32,
+    arrival: Arrival,
+    addresses: &[u8],
+    rest: &mut [u8],
+) -> Result<Outcome, Refusal>
+    requires addresses { length addresses.now ≡ 16 }
+    requires header { has_header rest.old ≡ true }
+    // The exact outcome or refusal, and every byte after it, of the packet in one piece.
+    ensures exact { let step = packet_step view.now now arrival (addresses.now ++ rest.old)
+        in IsPacketStepped step (addresses.now ++ rest.old) (addresses.now ++ rest.new) result }
+{
+    let source = source_in(addresses);
+    let destination = destination_in(addresses);
     step_behind(view, now, arrival, source, destination, rest)
 }
 

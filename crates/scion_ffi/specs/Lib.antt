@@ -4,3 +4,4 @@ pub mod Step
 pub mod Packets
 pub mod Header
 pub mod Authenticator
+pub mod Whole

@@ -1,0 +1,9 @@
+pub mod Fault
+pub mod Value
+pub mod Layout
+pub mod Spelling
+pub mod Reading
+pub mod Writing
+pub mod Reply
+pub mod Turn
+pub mod Parts
