@@ -23,6 +23,7 @@ LAYERS = {
     "Segments and paths": "beaconing path_server segment_board path_verifier combinator"
     " daemon_cache",
     "Packets and networks": "router_step forwarding network_core router_workers",
+    "Examples of the theorem": "arrivals row_history row_lines",
     "Texts in and out": "event_lines work_lines beacon_lines step_line packet_view network_view"
     " path_report line_faults commands",
     "Programs, and libraries for other languages": "scionet scionet_view tour bench scion_ffi"
