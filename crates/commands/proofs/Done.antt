@@ -84,7 +84,23 @@ Listens-unbegun accepted before after held holds still quiet = (
       Appends-none held holds quiet,
       (
         omega arith,
-        ([], (([], [], [], [], (record { whole = refl; apart = refl; last = refl }, refl)), (Unbegun, (tt, ([], ((refl, refl), refl)))))),
+        (
+          [],
+          (
+            ([], [], [], [], (record { whole = refl; apart = refl; last = refl }, refl)),
+            (
+              (
+                [],
+                [],
+                [],
+                [],
+                [],
+                (refl, (omega arith, (record { whole = refl; apart = refl; last = refl }, refl))),
+              ),
+              (Unbegun, (tt, ([], ((refl, refl), refl)))),
+            ),
+          ),
+        ),
       ),
     ),
   ),
