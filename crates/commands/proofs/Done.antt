@@ -124,6 +124,7 @@ pub Does-refused : (answer : Result (Unit {0}) CommandFault) (fault : WordsFault
     → DoesCommand answer asked source sink
 Does-refused (Ok x) fault asked source sink is refused still quiet = absurd is
 Does-refused (Err e) (words.Usage text) asked source sink is refused still quiet = rw (is, refused) (tt, (still, quiet))
+Does-refused (Err e) words.NoCommand asked source sink is refused still quiet = rw (is, refused) (tt, (still, quiet))
 Does-refused (Err e) words.Memory asked source sink is refused still quiet =
     rw is (Does-memory asked source sink still quiet)
 
