@@ -24,6 +24,7 @@ LAYERS = {
     " daemon_cache",
     "Packets and networks": "router_step scion_packet forwarding network_core whole_packets"
     " router_workers",
+    "Examples of the theorem": "arrivals row_history row_lines",
     "Texts in and out": "event_lines work_lines beacon_lines step_line packet_view network_view"
     " path_report line_faults commands",
     "Programs, and libraries for other languages": "scionet scionet_view tour bench scion_ffi"

@@ -1,3 +1,4 @@
 pub mod Growing
 pub mod Going
 pub mod Saying
+pub mod InLine

@@ -1,10 +1,14 @@
 -- The text of a beaconing: the line of its topology, and the lines of its events.
 use Rattle.std.proofs.Common.{◌≡◌, ℕ, List, [], ◌∷◌, ◌++◌, map, Ok, Err, refl, sym, ap, ◌∙◌, subst}
-use Rattle.std.specs.Prelude.{codes, flat_map}
-use Rattle.std.specs.Str.{IsUtf8}
+use Rattle.std.specs.Prelude.{codes, flat_map, IfErr, IsTrue, Result}
+use Rattle.std.specs.Str.{IsUtf8, is_utf8}
+use Rattle.std.proofs.lemmas.Str.{is_utf8-from_IsUtf8}
+use Rattle.refusal.specs.declared.fault.OrMemory.{OrMemory}
+use Rattle.refusal.specs.declared.fault.OrMemory.TheVariants.{Memory}
 use Rattle.std.proofs.lemmas.List.{append_assoc}
 use Rattle.std.proofs.lemmas.List.Concat.{flat_map-cons}
 use Rattle.json_fields.proofs.Documents.{no_document}
+use Rattle.scion_topology.specs.declared.fault.TopologyFault.{TopologyFault}
 use Rattle.scion_topology.specs.declared.fault.TopologyFault.TheVariants.{NotJson}
 use Rattle.scion_topology.specs.Network.{Network}
 use Rattle.scion_topology.specs.Rules.{IsNetwork}
@@ -45,3 +49,9 @@ are_lines line text network events net topology known same beaconing says =
       says = says ∙ append_assoc line (codes "\n") (flat_map (λ event. event_line (network_event event)) events)
           ∙ ap (λ later. line ++ (codes "\n" ++ later)) (sym (lines_of events));
     }
+
+-- memory may run out where the bytes are UTF-8
+pub wants_text : {A : Type 0} (answer : Result A (OrMemory TopologyFault)) (bytes : List ℕ)
+    → IsUtf8 bytes → IfErr answer (λ error. error ≡ Memory → IsTrue (is_utf8 bytes))
+wants_text (Ok lines) bytes text = tt
+wants_text (Err error) bytes text = λ memory. is_utf8-from_IsUtf8 bytes text

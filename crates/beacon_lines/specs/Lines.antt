@@ -9,10 +9,14 @@ use Rattle.network_core.specs.Value.{NetValue}
 use Rattle.network_core.specs.Ran.{IsRun}
 use Rattle.beacon_lines.specs.Beaconing.{IsBeaconing}
 
--- the bytes as one line: a line feed or a carriage return, which JSON has only between its tokens,
--- is a space
+-- the byte as it stands in one line: a line feed or a carriage return, which JSON has only between
+-- its tokens, is a space
+abbrev pub byte_in_line : ℕ → ℕ
+byte_in_line byte = if (byte == 10) || (byte == 13) then 32 else byte
+
+-- the bytes as one line
 abbrev pub one_line : List ℕ → List ℕ
-one_line bytes = map (λ byte. if (byte == 10) || (byte == 13) then 32 else byte) bytes
+one_line bytes = map byte_in_line bytes
 
 -- the line of an event, with its end
 unfoldable pub event_line : EventValue → List ℕ

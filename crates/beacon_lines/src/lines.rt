@@ -1,11 +1,12 @@
-ghost use Rattle.std.specs.Prelude.{◌≡◌, ◌++◌, codes, Err, flat_map, IfErr, IfOk, OnOk};
+ghost use Rattle.std.specs.Prelude.{◌≡◌, ◌++◌, codes, Err, flat_map, IfErr, IfOk, IsTrue, OnOk};
+ghost use Rattle.std.specs.Str.{is_utf8};
 ghost use Rattle.std.specs.String.{string_bytes};
 ghost use Rattle.refusal.specs.declared.fault.OrMemory.{OrMemory};
 ghost use Rattle.scion_topology.specs.declared.fault.TopologyFault.{TopologyFault};
 ghost use Rattle.scion_topology.specs.Topology.{network_in};
 ghost use Rattle.network_core.specs.Value.{new_net};
 ghost use Rattle.beacon_lines.specs.Beaconing.{network_event};
-ghost use Rattle.beacon_lines.specs.Lines.{AreBeaconLines, event_line, one_line};
+ghost use Rattle.beacon_lines.specs.Lines.{AreBeaconLines, byte_in_line, event_line, one_line};
 
 use crate::event::BeaconEvent;
 use crate::line::push_line;
@@ -20,16 +21,24 @@ use std::str;
 /// Why no lines were made: the topology is refused, or memory ran out.
 pub type ReadError = OrMemory<TopologyFault>;
 
-/// The bytes as one line: each end of a line in them is a space.
-fn to_one_line(alloc: Global, bytes: &[u8]) -> Result<Vec<u8>, AllocError>
-    ensures { IfOk result (λ line. line.items ≡ one_line bytes.now) }
+/// The byte as it stands in one line: a space for an end of a line.
+fn byte_in_line(byte: u8) -> u8
+    ensures { result ≡ byte_in_line byte }
 {
-    let mut line = Vec::with_capacity(alloc, bytes.len())?;
-    for byte in bytes {
-        let is_end = *byte == b'\n' || *byte == b'\r';
-        line.push(if is_end { b' ' } else { *byte })?;
+    if byte == b'\n' || byte == b'\r' {
+        b' '
+    } else {
+        byte
     }
-    Ok(line)
+}
+
+/// Makes the bytes one line: each end of a line in them becomes a space.
+fn to_one_line(bytes: &mut [u8])
+    ensures { bytes.new ≡ one_line bytes.old }
+{
+    for byte in bytes.iter_mut() {
+        *byte = byte_in_line(*byte);
+    }
 }
 
 /// The beaconing of a topology.
@@ -82,6 +91,24 @@ fn lines_from(alloc: Global, line: &str, options: &BeaconingOptions) -> Result<S
     Ok(text_of(alloc, line, run.events())?)
 }
 
+/// The lines of a complete beaconing of the topology in these bytes, which are the first line.
+fn lines_of_bytes(
+    alloc: Global,
+    line: &[u8],
+    options: &BeaconingOptions,
+) -> Result<String, ReadError>
+    ensures lines { IfOk result (λ text. AreBeaconLines line.now (string_bytes text)) }
+    ensures refused { IfErr result (λ error. (fault : TopologyFault)
+        → error ≡ OrMemory.Refused fault → network_in line.now ≡ Err fault) }
+    ensures wanted { IfErr result (λ error. error ≡ OrMemory.Memory
+        → IsTrue (is_utf8 line.now)) }
+{
+    match str::from_utf8(line) {
+        Ok(line) => lines_from(alloc, line, options),
+        Err(_) => Err(OrMemory::Refused(TopologyFault::NotJson)),
+    }
+}
+
 /// The lines of a complete beaconing of a topology, as `scionet run` takes them: the topology, the
 /// second, and the events that make the segments. Each core AS begins beacons over its links. Each
 /// AS ends and passes on the first of one origin that reach it, as many as are wanted: beacons go
@@ -89,23 +116,24 @@ fn lines_from(alloc: Global, line: &str, options: &BeaconingOptions) -> Result<S
 /// of at most 63 entries from a core AS gets one.
 ///
 /// The topology is one JSON text of one or more lines. If it is refused, its fault is returned.
+/// Memory can run out only if the bytes are UTF-8.
 ///
 /// With C core ASes and L links it tries at most 2·C·L·K beacons if K segments are wanted from one
 /// AS to another. It takes time and memory in proportion to those that it makes, and some 64 steps
 /// for each that it tries.
 pub fn beacon_lines(
     alloc: Global,
-    topology: &[u8],
+    topology: Vec<u8>,
     options: &BeaconingOptions,
 ) -> Result<String, ReadError>
     ensures lines { IfOk result
-        (λ text. AreBeaconLines (one_line topology.now) (string_bytes text)) }
+        (λ text. AreBeaconLines (one_line topology.items) (string_bytes text)) }
     ensures refused { IfErr result (λ error. (fault : TopologyFault)
-        → error ≡ OrMemory.Refused fault → network_in (one_line topology.now) ≡ Err fault) }
+        → error ≡ OrMemory.Refused fault → network_in (one_line topology.items) ≡ Err fault) }
+    ensures wanted { IfErr result (λ error. error ≡ OrMemory.Memory
+        → IsTrue (is_utf8 (one_line topology.items))) }
 {
-    let line = to_one_line(alloc, topology)?;
-    match str::from_utf8(&line) {
-        Ok(line) => lines_from(alloc, line, options),
-        Err(_) => Err(OrMemory::Refused(TopologyFault::NotJson)),
-    }
+    let mut line = topology;
+    to_one_line(&mut line);
+    lines_of_bytes(alloc, &line, options)
 }

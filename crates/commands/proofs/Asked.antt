@@ -10,9 +10,9 @@ use Rattle.clap.proofs.OnLiterals.{clap_on_literals}
 use Rattle.commands.specs.declared.command.Command.{Command}
 use Rattle.commands.specs.declared.command.Command.TheVariants.{Run}
 use Rattle.commands.specs.declared.fault.WordsFault.{WordsFault}
-use Rattle.commands.specs.declared.fault.WordsFault.TheVariants.{Usage, Memory}
+use Rattle.commands.specs.declared.fault.WordsFault.TheVariants.{Usage, NoCommand, Memory}
 use Rattle.commands.specs.Words.{command_or_run, command_in, named_by, program_app, unless_faulty}
-use Rattle.commands.specs.Fault.{AsksFor, Explains, IsWordsFault}
+use Rattle.commands.specs.Fault.{AsksFor, Explains, IsOwnWordsFault}
 
 -- the command line is one whose matches and faults `clap` states
 pub is_program_simple : is_simple program_app ≡ true
@@ -53,15 +53,17 @@ named-refused words error (Usage text) differs has = elim has [
   | inl memory ↦ absurd (differs memory)
   | inr among ↦ none_of (fault_of program_app words) _ _ among
 ]
+named-refused words error NoCommand explained has = absurd explained
 named-refused words error Memory explained has = tt
 
 -- it has a fault of its own for them, or memory ran out
 pub told-refused : (words : List Text) (error : Error) (fault : WordsFault) → Explains fault error
-    → HasKind (fault_of program_app words) error → fault_of program_app words ≡ [] → IsWordsFault fault
+    → HasKind (fault_of program_app words) error → fault_of program_app words ≡ [] → IsOwnWordsFault fault
 told-refused words error (Usage text) differs has none = elim has [
   | inl memory ↦ absurd (differs memory)
   | inr among ↦ absurd (subst (IsAmong _) none among)
 ]
+told-refused words error NoCommand explained has none = tt
 told-refused words error Memory explained has none = tt
 
 -- words that `clap` accepts name what the matches name
@@ -71,9 +73,3 @@ pub named-found : (words : List Text) (found : Option (Text × List Row)) (comma
 named-found words found command none is named =
     ap (λ kinds. unless_faulty kinds (command_in (subcommand_of program_app words))) none
     ∙ (ap command_in (sym is) ∙ sym named)
-
--- a fault of words is right where they ask for nothing
-pub Asks-none : (fault : WordsFault) (asked : Option Command) → IsWordsFault fault → asked ≡ None
-    → AsksFor (Err fault) asked
-Asks-none (Usage text) asked is none = none
-Asks-none Memory asked is none = tt

@@ -84,7 +84,23 @@ Listens-unbegun accepted before after held holds still quiet = (
       Appends-none held holds quiet,
       (
         omega arith,
-        ([], (([], [], [], [], (record { whole = refl; apart = refl; last = refl }, refl)), (Unbegun, (tt, ([], ((refl, refl), refl)))))),
+        (
+          [],
+          (
+            ([], [], [], [], (record { whole = refl; apart = refl; last = refl }, refl)),
+            (
+              (
+                [],
+                [],
+                [],
+                [],
+                [],
+                (refl, (omega arith, (record { whole = refl; apart = refl; last = refl }, refl))),
+              ),
+              (Unbegun, (tt, ([], ((refl, refl), refl)))),
+            ),
+          ),
+        ),
       ),
     ),
   ),
@@ -108,6 +124,7 @@ pub Does-refused : (answer : Result (Unit {0}) CommandFault) (fault : WordsFault
     → DoesCommand answer asked source sink
 Does-refused (Ok x) fault asked source sink is refused still quiet = absurd is
 Does-refused (Err e) (words.Usage text) asked source sink is refused still quiet = rw (is, refused) (tt, (still, quiet))
+Does-refused (Err e) words.NoCommand asked source sink is refused still quiet = rw (is, refused) (tt, (still, quiet))
 Does-refused (Err e) words.Memory asked source sink is refused still quiet =
     rw is (Does-memory asked source sink still quiet)
 

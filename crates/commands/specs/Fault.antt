@@ -18,7 +18,7 @@ use Rattle.commands.specs.declared.command.Command.{Command}
 use Rattle.commands.specs.declared.fault.WordsFault.{WordsFault}
 use Rattle.commands.specs.declared.fault.WordsFault.TheVariants as words
 use Rattle.commands.specs.declared.fault.CommandFault.{CommandFault}
-use Rattle.commands.specs.declared.fault.CommandFault.TheVariants.{Usage, PacketText, Topology, Workers, Read, Write, InputTooLong, Memory}
+use Rattle.commands.specs.declared.fault.CommandFault.TheVariants.{Usage, NoCommand, PacketText, Topology, Workers, Read, Write, InputTooLong, Memory}
 use Rattle.commands.specs.declared.step_fault.StepFault.{StepFault}
 use Rattle.commands.specs.declared.step_fault.StepFault.TheVariants as step
 use Rattle.commands.specs.declared.status.Status.{Status}
@@ -26,35 +26,32 @@ use Rattle.commands.specs.declared.status.Status.TheVariants.{Done, Failed, Refu
 
 -- ---- words
 
--- the message about words that are no command, if `clap` has none
-abbrev pub usage_text : List ℕ
-usage_text = codes "scionet: usage\n"
+-- the fault is our own and not one of `clap`: the words are no command, or memory ran out
+abbrev pub IsOwnWordsFault : WordsFault → Type 0
+IsOwnWordsFault (words.Usage text) = ⊥
+IsOwnWordsFault fault = Unit {0}
 
--- the fault of words: our own message about usage; or memory ran out, about which nothing is
--- claimed
-abbrev pub IsWordsFault : WordsFault → Type 0
-IsWordsFault (words.Usage text) = string_bytes text ≡ usage_text
-IsWordsFault words.Memory = Unit {0}
-
--- if the fault is one of usage, its message is our own
-abbrev pub IsOwnUsage : CommandFault → Type 0
-IsOwnUsage (Usage text) = string_bytes text ≡ usage_text
-IsOwnUsage fault = Unit {0}
+-- the fault is not that for which `clap` refuses words
+abbrev pub IsOwnFault : CommandFault → Type 0
+IsOwnFault (Usage text) = ⊥
+IsOwnFault fault = Unit {0}
 
 -- the same of the fault of a turn
-abbrev pub IsStepUsage : StepFault → Type 0
-IsStepUsage (step.Usage text) = string_bytes text ≡ usage_text
-IsStepUsage fault = Unit {0}
+abbrev pub IsOwnStepFault : StepFault → Type 0
+IsOwnStepFault (step.Usage text) = ⊥
+IsOwnStepFault fault = Unit {0}
 
 -- a fault of usage is one for which `clap` refuses the words
 abbrev pub Explains : WordsFault → Error → Type 0
 Explains (words.Usage text) error = kind_of error ≢ OutOfMemory
+Explains words.NoCommand error = ⊥
 Explains words.Memory error = Unit {0}
 
 -- the words are this command, they are refused, or memory ran out
 abbrev pub AsksFor : Result Command WordsFault → Option Command → Type 0
 AsksFor (Ok command) asked = asked ≡ Some command
 AsksFor (Err (words.Usage text)) asked = asked ≡ None
+AsksFor (Err words.NoCommand) asked = asked ≡ None
 AsksFor (Err words.Memory) asked = Unit {0}
 
 -- the line of the turn in the words was returned; or the words have no turn; or they have one, and
@@ -63,6 +60,7 @@ abbrev pub AnswersTurn : {A : Type 0} → Result (String A) StepFault → Option
 AnswersTurn (Ok line) asked packet =
     (turn : Turn) × ((asked ≡ Some turn) × (line_of turn packet ≡ Some (string_bytes line)))
 AnswersTurn (Err (step.Usage text)) asked packet = asked ≡ None
+AnswersTurn (Err step.NoCommand) asked packet = asked ≡ None
 AnswersTurn (Err step.PacketText) asked packet =
     (turn : Turn) × ((asked ≡ Some turn) × (line_of turn packet ≡ None))
 AnswersTurn (Err step.Memory) asked packet = Unit {0}
@@ -72,11 +70,13 @@ AnswersTurn (Err step.Memory) asked packet = Unit {0}
 -- the fault of a command whose words are refused
 abbrev pub of_words : WordsFault → CommandFault
 of_words (words.Usage text) = Usage text
+of_words words.NoCommand = NoCommand
 of_words words.Memory = Memory
 
 -- the fault of a turn whose words are refused
 abbrev pub step_of_words : WordsFault → StepFault
 step_of_words (words.Usage text) = step.Usage text
+step_of_words words.NoCommand = step.NoCommand
 step_of_words words.Memory = step.Memory
 
 -- the fault of a turn that gave no line
@@ -110,9 +110,14 @@ of_work work.Workers = Workers
 of_work work.Memory = Memory
 of_work work.Write = Write
 
+-- the message about words that are no command, if `clap` has none
+abbrev pub usage_text : List ℕ
+usage_text = codes "scionet: usage\n"
+
 -- the message about a fault on standard error
 abbrev pub text_of_fault : CommandFault → List ℕ
 text_of_fault (Usage text) = string_bytes text
+text_of_fault NoCommand = usage_text
 text_of_fault PacketText = codes "scionet: bad packet text\n"
 text_of_fault Topology = codes "scionet: topology refused\n"
 text_of_fault Workers = codes "scionet: workers refused\n"
@@ -124,6 +129,7 @@ text_of_fault InputTooLong = codes "scionet: input too long\n"
 -- the status for a fault
 abbrev pub status_of : CommandFault → Status
 status_of (Usage text) = Refused
+status_of NoCommand = Refused
 status_of fault = Failed
 
 -- the exit status of the program

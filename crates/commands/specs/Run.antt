@@ -12,7 +12,7 @@ use Rattle.work_lines.specs.Work as work
 use Rattle.commands.specs.declared.command.Command.{Command}
 use Rattle.commands.specs.declared.command.Command.TheVariants as command
 use Rattle.commands.specs.declared.fault.CommandFault.{CommandFault}
-use Rattle.commands.specs.declared.fault.CommandFault.TheVariants.{Usage, PacketText, Write, Memory}
+use Rattle.commands.specs.declared.fault.CommandFault.TheVariants.{Usage, NoCommand, PacketText, Write, Memory}
 use Rattle.commands.specs.declared.status.Status.{Status}
 use Rattle.commands.specs.declared.status.Status.TheVariants.{Done}
 use Rattle.commands.specs.Fault.{of_input, of_run, of_work, status_of, text_of_fault}
@@ -117,6 +117,7 @@ CarriesPackets answer workers slots source sink = (run : Result (Unit {0}) WorkF
 -- the words are refused, or memory ran out
 abbrev pub IsNoCommand : {A : Type 0} → Result A CommandFault → Type 0
 IsNoCommand (Err (Usage text)) = Unit {0}
+IsNoCommand (Err NoCommand) = Unit {0}
 IsNoCommand (Err Memory) = Unit {0}
 IsNoCommand answer = ⊥
 

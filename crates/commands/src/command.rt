@@ -3,7 +3,7 @@
 ghost use Rattle.std.specs.Prelude.{◌≡◌, IfErr, IfOk, IfSome, map};
 ghost use Rattle.clap.specs.Words.{subcommand_rows_of};
 ghost use Rattle.commands.specs.Words.{IsCommandLine, IsInRange, command_or_run, command_in, turn_asked};
-ghost use Rattle.commands.specs.Fault.{AnswersTurn, AsksFor, Explains, IsStepUsage, IsWordsFault};
+ghost use Rattle.commands.specs.Fault.{AnswersTurn, AsksFor, Explains, IsOwnStepFault, IsOwnWordsFault};
 
 use crate::fault::WordsFault;
 use crate::matched::{turn, work};
@@ -64,15 +64,14 @@ impl Command {
     /// The command of the words after the program's name; without any it is [`Command::Run`].
     ///
     /// [`WordsFault::Usage`] with the text of `clap`, if it refuses the words or they ask for help.
-    /// The same fault with the text `scionet: usage`, if the words name no command, those of `step`
-    /// give no turn, or a number of `work` can't be read. [`WordsFault::Memory`] if memory runs
-    /// out.
+    /// [`WordsFault::NoCommand`] if the words name no command, those of `step` give no turn, or a
+    /// number of `work` can't be read. [`WordsFault::Memory`] if memory runs out.
     pub fn parse<'a>(alloc: Global, words: &'a [&'a str]) -> Result<Command, WordsFault>
         ensures asks { AsksFor result (command_or_run (map (λ word. word.now) words.entry.now)) }
         ensures range { IfOk result IsInRange }
-        // For words that `clap` accepts and that are no command, the text is our own.
+        // For words that `clap` accepts and that are no command, the fault is our own.
         ensures usage { IfErr result (λ fault.
-            IsCommandLine (map (λ word. word.now) words.entry.now) → IsWordsFault fault) }
+            IsCommandLine (map (λ word. word.now) words.entry.now) → IsOwnWordsFault fault) }
     {
         if words.is_empty() {
             return Ok(Command::Run);
@@ -83,7 +82,7 @@ impl Command {
         };
         match read_command(alloc, &matches)? {
             Some(command) => Ok(command),
-            None => Err(WordsFault::no_command(alloc)),
+            None => Err(WordsFault::NoCommand),
         }
     }
 }
@@ -91,19 +90,17 @@ impl Command {
 /// The line, without its end, that `scionet step` prints for these words and this text on standard
 /// input. The words are those after the program's name.
 ///
-/// [`StepFault::Usage`] as in [`Command::parse`], and if the words are another command; then
-/// [`StepFault::PacketText`] as in [`StepCommand::line`]; [`StepFault::Memory`] if memory runs out.
+/// [`StepFault::Usage`] as in [`Command::parse`]; [`StepFault::NoCommand`] as there, and if the words
+/// are another command; then [`StepFault::PacketText`] as in [`StepCommand::line`]; [`StepFault::Memory`] if memory runs out.
 pub fn step_line<'a>(alloc: Global, words: &'a [&'a str], packet: &str) -> Result<String, StepFault>
     ensures answers { AnswersTurn result (turn_asked (command_or_run (map (λ word. word.now)
         words.entry.now))) packet.now }
-    // For words that `clap` accepts and that are no turn, the text is our own.
+    // For words that `clap` accepts and that are no turn, the fault is our own.
     ensures usage { IfErr result (λ fault.
-        IsCommandLine (map (λ word. word.now) words.entry.now) → IsStepUsage fault) }
+        IsCommandLine (map (λ word. word.now) words.entry.now) → IsOwnStepFault fault) }
 {
     match Command::parse(alloc, words)? {
         Command::Step(command) => Ok(command.line(alloc, packet.as_bytes())?),
-        Command::Run | Command::Work { .. } => {
-            Err(StepFault::from(WordsFault::no_command(alloc)))
-        }
+        Command::Run | Command::Work { .. } => Err(StepFault::NoCommand),
     }
 }

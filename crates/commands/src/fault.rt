@@ -1,12 +1,12 @@
-ghost use Rattle.std.specs.Prelude.{◌≡◌};
+ghost use Rattle.std.specs.Prelude.{◌≡◌, ◌↔◌};
 ghost use Rattle.std.specs.IoError.{error_kind};
-ghost use Rattle.commands.specs.Fault.{IsWordsFault, of_input, of_run, of_turn, of_words, of_work, status_of, text_of_fault};
+ghost use Rattle.commands.specs.Fault.{IsOwnWordsFault, of_input, of_run, of_turn, of_words, of_work, status_of, text_of_fault};
 ghost use Rattle.commands.specs.declared.fault.CommandFault.TheVariants as command;
 ghost use Rattle.commands.specs.declared.fault.WordsFault.TheVariants as words;
 
 use crate::status::Status;
 use event_lines::RunFault;
-use std::alloc::{AllocError, Global};
+use std::alloc::AllocError;
 use std::io;
 use std::io::ErrorKind;
 use step_line::TurnFault;
@@ -20,31 +20,25 @@ pub enum WordsFault {
     /// The words are refused, or ask for help. It holds the text that the program prints.
     #[error("{0}")]
     Usage(String),
+    /// The words are no UTF-8, or `clap` accepts them and they are no command.
+    #[error("scionet: usage")]
+    NoCommand,
     /// Memory ran out.
     #[error("scionet: out of memory")]
     Memory,
 }
 
 impl WordsFault {
-    /// The fault of words that `clap` accepts and that are no command.
-    pub(crate) fn no_command(alloc: Global) -> WordsFault
-        ensures { IsWordsFault result }
-    {
-        match String::from_str(alloc, "scionet: usage\n") {
-            Ok(text) => WordsFault::Usage(text),
-            Err(_) => WordsFault::Memory,
-        }
-    }
-
     /// The fault of words that can't be read: [`WordsFault::Memory`] if the system says that memory
-    /// ran out, and else [`WordsFault::Usage`], since the words are no UTF-8.
-    pub fn unreadable(alloc: Global, error: &io::Error) -> WordsFault
-        ensures text { IsWordsFault result }
-        ensures memory { error_kind error.now ≡ ErrorKind.OutOfMemory → result ≡ words.Memory }
+    /// ran out, and else [`WordsFault::NoCommand`], since the words are no UTF-8. Takes no memory.
+    pub fn unreadable(error: &io::Error) -> WordsFault
+        ensures own { IsOwnWordsFault result }
+        ensures memory { (result ≡ words.Memory)
+            ↔ (error_kind error.now ≡ ErrorKind.OutOfMemory) }
     {
         match error.kind() {
             ErrorKind::OutOfMemory => WordsFault::Memory,
-            _ => WordsFault::no_command(alloc),
+            _ => WordsFault::NoCommand,
         }
     }
 }
@@ -63,6 +57,9 @@ pub enum CommandFault {
     /// The words are refused, or ask for help. It holds the text that the program prints.
     #[error("{0}")]
     Usage(String),
+    /// The words are no UTF-8, or `clap` accepts them and they are no command.
+    #[error("scionet: usage")]
+    NoCommand,
     /// The packet's text is not hexadecimal digits, two for each byte.
     #[error("scionet: bad packet text")]
     PacketText,
@@ -93,7 +90,7 @@ impl CommandFault {
         ensures { result ≡ status_of self.now }
     {
         match self {
-            CommandFault::Usage(_) => Status::Refused,
+            CommandFault::Usage(_) | CommandFault::NoCommand => Status::Refused,
             _ => Status::Failed,
         }
     }
@@ -104,6 +101,7 @@ impl CommandFault {
     {
         match self {
             CommandFault::Usage(text) => text.as_str(),
+            CommandFault::NoCommand => "scionet: usage\n",
             CommandFault::PacketText => "scionet: bad packet text\n",
             CommandFault::Topology => "scionet: topology refused\n",
             CommandFault::Workers => "scionet: workers refused\n",
@@ -121,6 +119,7 @@ impl From<WordsFault> for CommandFault {
     fn from(fault: WordsFault) -> CommandFault {
         match fault {
             WordsFault::Usage(text) => CommandFault::Usage(text),
+            WordsFault::NoCommand => CommandFault::NoCommand,
             WordsFault::Memory => CommandFault::Memory,
         }
     }

@@ -2,7 +2,7 @@
 
 ghost use Rattle.std.specs.Prelude.{◌≡◌, ◌<◌, ◌≤◌, IfErr, map};
 ghost use Rattle.commands.specs.Words.{IsCommandLine, command_or_run};
-ghost use Rattle.commands.specs.Fault.{IsOwnUsage, status_of, usage_text};
+ghost use Rattle.commands.specs.Fault.{IsOwnFault, status_of, usage_text};
 ghost use Rattle.commands.specs.Run.{AnswersSource, CarriesPackets, DoesCommand, EndsWith, Steps, Tells, TellsOf, change_of};
 ghost use Rattle.commands.specs.declared.status.Status.TheVariants.{Done, Refused};
 
@@ -70,8 +70,8 @@ fn run_workers<R: Threads + Wait + Sync, S: Source, K: Sink>(
 /// Carries out the command of the words after the program's name: it reads the source to its end,
 /// and writes the lines of the result to the sink.
 ///
-/// The words are checked before anything is read. [`CommandFault::Usage`] as in [`Command::parse`];
-/// [`CommandFault::Read`] if and only if the source failed, and [`CommandFault::Write`] if and only
+/// The words are checked before anything is read. [`CommandFault::Usage`] and
+/// [`CommandFault::NoCommand`] as in [`Command::parse`]; [`CommandFault::Read`] if and only if the source failed, and [`CommandFault::Write`] if and only
 /// if the sink failed; [`CommandFault::InputTooLong`] if byte 67,108,865 is read;
 /// [`CommandFault::PacketText`] as in [`StepCommand::line`]; [`CommandFault::Topology`] as in
 /// [`run_lines`], after its reply; [`CommandFault::Workers`] as in [`work_lines`], after all
@@ -88,9 +88,9 @@ pub fn execute<'a, R: Threads + Wait + Sync, S: Source, K: Sink>(
         (change_of K.held K.failed sink.old sink.new) }
     ensures silent { IfErr result (λ fault. status_of fault ≡ Refused
         → (source.new ≡ source.old) × (sink.new ≡ sink.old)) }
-    // For words that `clap` accepts and that are no command, the text is our own.
+    // For words that `clap` accepts and that are no command, the fault is our own.
     ensures usage { IfErr result (λ fault.
-        IsCommandLine (map (λ word. word.now) words.entry.now) → IsOwnUsage fault) }
+        IsCommandLine (map (λ word. word.now) words.entry.now) → IsOwnFault fault) }
 {
     match Command::parse(alloc, words)? {
         Command::Step(command) => run_step(alloc, &command, source, sink),

@@ -8,10 +8,12 @@ use thiserror::Error;
 /// Why [`crate::step_line`] returned no line.
 #[derive(Debug, Drop, Error)]
 pub enum StepFault {
-    /// The words are refused, ask for help, or are another command. It holds the text that the
-    /// program prints.
+    /// The words are refused, or ask for help. It holds the text that the program prints.
     #[error("{0}")]
     Usage(String),
+    /// The words are no UTF-8, or `clap` accepts them and they are no turn.
+    #[error("scionet: usage")]
+    NoCommand,
     /// The packet's text is not hexadecimal digits, two for each byte.
     #[error("scionet: bad packet text")]
     PacketText,
@@ -26,6 +28,7 @@ impl From<WordsFault> for StepFault {
     fn from(fault: WordsFault) -> StepFault {
         match fault {
             WordsFault::Usage(text) => StepFault::Usage(text),
+            WordsFault::NoCommand => StepFault::NoCommand,
             WordsFault::Memory => StepFault::Memory,
         }
     }

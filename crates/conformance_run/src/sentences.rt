@@ -90,6 +90,7 @@ fn sentences_of_words_and_of_commands(rt: HostRuntime) -> Result<(), Fail> {
     let alloc = rt.alloc();
     let words = [
         (WordsFault::Usage("a text".to_string(alloc)?), "a text"),
+        (WordsFault::NoCommand, "scionet: usage"),
         (WordsFault::Memory, "scionet: out of memory"),
     ];
     let commands = [

@@ -20,6 +20,7 @@ fn sentences(rt: HostRuntime) -> Result<(), Fail> {
     assert!(rt; is_sentence(alloc, &WriteFailed, "write failed")?);
     assert!(rt; is_sentence(alloc, &TurnFault::PacketText, "bad packet text")?);
     assert!(rt; is_sentence(alloc, &TurnFault::Memory, "out of memory")?);
+    assert!(rt; is_sentence(alloc, &StepFault::NoCommand, "scionet: usage")?);
     assert!(rt; is_sentence(alloc, &StepFault::PacketText, "scionet: bad packet text")?);
     assert!(rt; is_sentence(alloc, &StepFault::Memory, "scionet: out of memory")?);
     Ok(())
@@ -29,6 +30,7 @@ fn sentences(rt: HostRuntime) -> Result<(), Fail> {
 #[test]
 fn sentences_of_commands(rt: HostRuntime) -> Result<(), Fail> {
     let rows = [
+        (CommandFault::NoCommand, "scionet: usage"),
         (CommandFault::PacketText, "scionet: bad packet text"),
         (CommandFault::Topology, "scionet: topology refused"),
         (CommandFault::Read, "scionet: read failed"),

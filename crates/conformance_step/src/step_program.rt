@@ -242,7 +242,7 @@ fn tried_again(rt: HostRuntime) -> Result<(), Fail> {
 #[test]
 fn faults_before(rt: HostRuntime) -> Result<(), Fail> {
     let unreadable = io::Error::from(io::ErrorKind::InvalidData);
-    let refused = CommandFault::from(WordsFault::unreadable(rt.alloc(), &unreadable));
+    let refused = CommandFault::from(WordsFault::unreadable(&unreadable));
     let mut errors = Writer::new(Vec::new(rt.alloc()));
     assert_eq!(rt; end(&refused, &mut errors).code(), 2);
     assert!(rt; errors.into_inner().as_slice() == b"scionet: usage\n".as_slice());

@@ -36,12 +36,14 @@ lawful_at request = do
   options ← refused_as fault.Options (options_at request.texts)
   check (not (request.src == request.dst)) fault.SameAs
 
--- the error of a request. If the request is lawful, the reader could not enter the board, or memory
--- ran out; else it is the refusal of the request. After a refusal the reader has seen nothing more.
+-- the error of a request. If the request is lawful, the reader could not enter the board, and has
+-- seen nothing more; or memory ran out once it had entered, and it has seen what it found. Else it is
+-- the refusal of the request, and the reader was not used.
 abbrev pub GivesNoAnswer : (fault : OrMemory AskFault) (request : RequestValue)
     (before after : Informed) → Type 0
-GivesNoAnswer Memory request before after = lawful_at request ≡ Ok tt
+GivesNoAnswer Memory request before after =
+    (lawful_at request ≡ Ok tt) × (after.found ≡ after.seen)
 GivesNoAnswer (Refused fault.NoEntry) request before after =
-    (lawful_at request ≡ Ok tt) × (after ≡ before)
+    (lawful_at request ≡ Ok tt) × (after ≡ record before { found = after.found })
 GivesNoAnswer (Refused refusal) request before after =
     (lawful_at request ≡ Err refusal) × (after ≡ before)

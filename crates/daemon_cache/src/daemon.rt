@@ -146,7 +146,7 @@ impl Daemon {
     /// The first of these refusals is returned: [`AskFault::BadLimit`] if the limit is not 1 to 64;
     /// those of [`policy_expr::PolicyOption::parse_all`]; [`AskFault::SameAs`] if both ends are the
     /// same AS; [`AskFault::NoEntry`] if the reader could not enter the board, and then the caller
-    /// may try again. Memory can run out only if none of the first three comes.
+    /// may try again. Memory can run out only if none of these comes.
     pub fn ask<R: Wait>(
         &self,
         rt: &R,

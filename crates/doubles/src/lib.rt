@@ -5,7 +5,7 @@ ghost use Rattle.std.specs.Prelude.{◌≡◌};
 ghost use Rattle.std.specs.List.Sorted.{IsNonDecreasing, IsPermutation};
 ghost use Rattle.doubles.specs.Doubles.{has_double, begins_with};
 
-/// Whether a number is at two places of a list; the call sorts the list.
+/// Whether a number is at two places of a list. The call leaves the numbers in another order.
 ///
 /// It takes no memory, and about n log n comparisons for n numbers.
 pub fn has_double(numbers: &mut [u128]) -> bool

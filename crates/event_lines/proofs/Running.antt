@@ -7,7 +7,7 @@ use Rattle.event_lines.specs.declared.fault.RunFault.{RunFault}
 use Rattle.event_lines.specs.declared.fault.RunFault.TheVariants as faults
 use Rattle.event_lines.specs.declared.accepted.AcceptedLines.{AcceptedLines}
 use Rattle.streams.specs.Streams.{most_input}
-use Rattle.event_lines.specs.Run.{AreAll, AreFirst, AreLines, Ends, HaveNext, Listens, Wrote, WroteSome, all_lines, ended_lines, most_read}
+use Rattle.event_lines.specs.Run.{AreAll, AreFirst, AreLines, BeginWithEarlier, Ends, HaveNext, Listens, Wrote, WroteSome, all_lines, ended_lines, most_read}
 use Rattle.network_core.specs.Value.{NetValue}
 use Rattle.event_lines.specs.Replies.{RepliesTo, RepliesToAll}
 use Rattle.event_lines.specs.Answers.{Stage, Unbegun, Open, Closed, GoesOn, RepliesToInput}
@@ -227,6 +227,28 @@ next_last accepted {session} far one = (
   (far.are, sym (all_told accepted far.lines far.texts session.stage session.rest far.told) ∙ ap (λ ls. far.lines ++ ls) one),
 )
 
+-- nothing more came, so all lines that ended were told
+earlier_all : (accepted : AcceptedLines) {before after held holds : Option (List ℕ)}
+    {session : SessionValue} {count : ℕ}
+    → (far : SoFar accepted before after held holds session count)
+    → BeginWithEarlier far.read far.lines
+earlier_all accepted {session = session} far = (
+  far.read,
+  [],
+  far.lines,
+  [],
+  session.rest,
+  (sym (append-nil far.read), (omega arith, (far.are, sym (append-nil far.lines)))),
+)
+
+-- the last read brought these bytes, and further lines were told
+earlier_on : (accepted : AcceptedLines) {before after held holds : Option (List ℕ)}
+    {session : SessionValue} {count : ℕ} (bytes : List ℕ) (lines : List (List ℕ))
+    → (far : SoFar accepted before after held holds session count) → length bytes ≤ 8192
+    → BeginWithEarlier (far.read ++ bytes) (far.lines ++ lines)
+earlier_on accepted {session = session} bytes lines far room =
+    (far.read, bytes, far.lines, lines, session.rest, (refl, (room, (far.are, refl))))
+
 -- ---- how a run ends
 
 -- nothing more was read
@@ -269,8 +291,16 @@ ends_unfinished accepted before after now held holds with {session = session} by
     (far.lines ++ last_lines session, (inr (all_of accepted (IsAtEnd now) far end), wrote.1.1))
 ends_unfinished accepted before after now held holds with {session = session} bytes stage faults.Memory far none more end finishes =
     ended accepted (Err faults.Memory) now with bytes far.went far none more (omega arith)
-    (Appends-kept held holds with far.went far.appended finishes.1)
-    (far.lines, (next_last accepted far finishes.0, (session.stage, (far.on, (far.texts, (as_run accepted far, far.same))))))
+    (Appends-kept held holds with far.went far.appended finishes.1) (
+      far.lines,
+      (
+        next_last accepted far finishes.0,
+        (
+          earlier_all accepted far,
+          (session.stage, (far.on, (far.texts, (as_run accepted far, far.same)))),
+        ),
+      ),
+    )
 ends_unfinished accepted before after now held holds with {session = session} bytes stage faults.Write far none more end
     (inl finishes) =
     let wrote = some_on accepted with (last_lines session) far finishes in
@@ -371,24 +401,29 @@ ended_on accepted result at_end {before} {after} now with bytes went far few mor
 -- the lines of what came could not all be answered
 pub ends_short : (accepted : AcceptedLines) (before after now held holds with : Option (List ℕ)) (session new : SessionValue) {count : ℕ} (bytes : List ℕ) (fault : RunFault) (at_end : Type 0)
     → SoFar accepted before after held holds session count → count + length bytes ≤ most_input
-    → Consumes after now bytes
+    → length bytes ≤ 8192 → Consumes after now bytes
     → Exchanges accepted (Err fault) bytes session new holds with
     → Ended accepted (Err fault) at_end before now held with
-ends_short accepted before after now held holds with session new bytes faults.Topology at_end far few more exchanges =
-    let (lines, later, rest, (are, passes)) = exchanges in
+ends_short accepted before after now held holds with session new bytes faults.Topology at_end far few room more exchanges =
+    let (lines, later, rest, (are, (passes, clean))) = exchanges in
     let wrote = written_on accepted with lines Closed far passes in
     ended_on accepted (Err faults.Topology) at_end now with bytes wrote.0 far few more (omega arith) wrote.1.0
     (far.lines ++ lines, (inl (first_on accepted bytes lines later rest far are), wrote.1.1))
-ends_short accepted before after now held holds with session new bytes faults.Memory at_end far few more exchanges =
-    let (lines, later, rest, (stage, (are, (left, (on, passes))))) = exchanges in
+ends_short accepted before after now held holds with session new bytes faults.Memory at_end far few room more exchanges =
+    let (lines, later, rest, (stage, (are, (left, (on, (passes, clean)))))) = exchanges in
     let wrote = written_on accepted with lines stage far passes in
-    ended_on accepted (Err faults.Memory) at_end now with bytes wrote.0 far few more (omega arith) wrote.1.0
-    (far.lines ++ lines, (next_on accepted bytes lines later rest far are left, (stage, (on, wrote.1.1))))
-ends_short accepted before after now held holds with session new bytes faults.Write at_end far few more exchanges =
+    ended_on accepted (Err faults.Memory) at_end now with bytes wrote.0 far few more (omega arith) wrote.1.0 (
+      far.lines ++ lines,
+      (
+        next_on accepted bytes lines later rest far are left,
+        (earlier_on accepted bytes lines far room, (stage, (on, wrote.1.1))),
+      ),
+    )
+ends_short accepted before after now held holds with session new bytes faults.Write at_end far few room more exchanges =
     let (lines, later, rest, (are, passes)) = exchanges in
     let wrote = some_on accepted with lines far passes in
     ended_on accepted (Err faults.Write) at_end now with bytes wrote.0 far few more (omega arith) wrote.1.0
     (far.lines ++ lines, (inl (first_on accepted bytes lines later rest far are), wrote.1.1))
-ends_short accepted before after now held holds with session new bytes faults.Read at_end far few more exchanges =
+ends_short accepted before after now held holds with session new bytes faults.Read at_end far few room more exchanges =
     absurd exchanges
-ends_short accepted before after now held holds with session new bytes faults.InputTooLong at_end far few more exchanges = absurd exchanges
+ends_short accepted before after now held holds with session new bytes faults.InputTooLong at_end far few room more exchanges = absurd exchanges

@@ -54,6 +54,14 @@ HaveNext read lines =
     (whole : List (List ℕ)) × (rest : List ℕ) × (next : List ℕ) × (later : List (List ℕ))
     × (AreLines read whole rest × (all_lines whole rest ≡ lines ++ next ∷ later))
 
+-- these lines begin with all that had their end before the last read, which brought at most 8,192
+-- bytes
+abbrev pub BeginWithEarlier : List ℕ → List (List ℕ) → Type 0
+BeginWithEarlier read lines =
+    (front last : List ℕ) × (earlier later : List (List ℕ)) × (rest : List ℕ)
+    × ((read ≡ front ++ last) × ((length last ≤ 8192)
+    × (AreLines front earlier rest × (lines ≡ earlier ++ later))))
+
 -- all of the input was read, and these are its lines
 abbrev pub AreAll : Type 0 → List ℕ → List (List ℕ) → Type 0
 AreAll at_end read lines = (whole : List (List ℕ)) × (rest : List ℕ)
@@ -96,8 +104,8 @@ WroteWhole accepted read went = (lines : List (List ℕ)) × (rest : List ℕ)
 
 -- what was read and written, by the result of the run. All lines were answered, and the run ended
 -- with this network; or the topology was refused; or, if it was not refused, a read failed, the
--- input had more than the largest number of bytes, or memory ran out at a line that had no answer
--- yet; or a write failed.
+-- input had more than the largest number of bytes, or memory ran out at a line that had not ended
+-- before the last read; or a write failed.
 abbrev pub Ends : (accepted : AcceptedLines) (result : Result NetValue RunFault) (at_end : Type 0)
     (read went : List ℕ) → Type 0
 Ends accepted (Ok net) at_end read went = (lines : List (List ℕ))
@@ -108,7 +116,7 @@ Ends accepted (Err faults.Read) at_end read went = WroteWhole accepted read went
 Ends accepted (Err faults.InputTooLong) at_end read went = (front : List ℕ) × (byte : ℕ)
     × ((read ≡ front ++ byte ∷ []) × ((length front ≡ most_input) × WroteWhole accepted front went))
 Ends accepted (Err faults.Memory) at_end read went = (lines : List (List ℕ))
-    × (HaveNext read lines × WroteSoFar accepted lines went)
+    × (HaveNext read lines × (BeginWithEarlier read lines × WroteSoFar accepted lines went))
 Ends accepted (Err faults.Write) at_end read went = (lines : List (List ℕ))
     × (AreHeard at_end read lines × WroteSome accepted lines went)
 

@@ -106,7 +106,8 @@ fn hear<S: Source, K: Sink>(
 
 /// Answers the lines of a source, and returns the network after them. The first line is a topology.
 /// Each later line is an event of the network, or shows a packet; a line that is not accepted is a
-/// bad line. Each line has one reply, which is written and flushed before more is read.
+/// bad line. Each line has one reply. The replies to the lines of one read are written and flushed
+/// before more is read; no clause speaks of the flush.
 ///
 /// The lines after the first are a run of their events, in their order, and the replies are those
 /// of its history. So the guarantees of a run ([`network_core::run`]) hold for them, also for the
@@ -114,8 +115,8 @@ fn hear<S: Source, K: Sink>(
 ///
 /// [`RunFault::Topology`] if the first line is no topology, after its reply; no other fault but
 /// [`RunFault::Write`] may come then. [`RunFault::Read`] and [`RunFault::Write`] if the source or
-/// the sink failed; [`RunFault::Memory`] if memory ran out at a line, after the replies to those
-/// before; [`RunFault::InputTooLong`] at byte 67,108,865.
+/// the sink failed; [`RunFault::Memory`] if memory ran out at a line that had not ended before the
+/// last read, after the replies to those before; [`RunFault::InputTooLong`] at byte 67,108,865.
 ///
 /// It ends for every source that ends or passes that limit. A line takes the time and memory of its
 /// event, and more in proportion to its bytes. The bytes of one line, and the replies to the lines

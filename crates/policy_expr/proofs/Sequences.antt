@@ -19,6 +19,10 @@ readable_is_sequence tree readable = record {
 pub sequence_again : (tree : Tree) → IsSequence tree → sequence_at (sequence_text tree) ≡ Ok tree
 sequence_again tree sequence = spelled_is_sequence (sequence_text tree) tree sequence.spelled sequence.small
 
+-- a text that is printed of a sequence is read as it again
+pub text_again : (text : List ℕ) (tree : Tree) → IsSequence tree → text ≡ sequence_text tree → sequence_at text ≡ Ok tree
+text_again text tree sequence same = ap sequence_at same ∙ sequence_again tree sequence
+
 -- what is read of a text is a sequence
 pub read_sequence : (text : List ℕ) (tree : Tree) → sequence_at text ≡ Ok tree → IsSequence tree
 read_sequence text tree e = readable_is_sequence tree (read_is_sequence text tree e)

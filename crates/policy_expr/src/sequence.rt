@@ -124,11 +124,20 @@ impl<A: Allocator + Clone> Seq<A> {
         Ok(Seq { table, root })
     }
 
+    /// The node at the top of its tree. Takes no memory.
+    pub fn root(&self) -> &SeqNode<A>
+        ensures { tree_of result.now ≡ self.now }
+    {
+        &self.root
+    }
+
     /// Its text, with no parentheses that the tree can do without. There is one space for following
     /// and no space around `|`. Addresses are in their canonical text; the ISD stands alone if the
-    /// AS and the interfaces are wildcards. [`AllocError`] if memory runs out.
+    /// AS and the interfaces are wildcards. [`Seq::parse`] gives the sequence back. [`AllocError`]
+    /// if memory runs out.
     pub fn print<B: Allocator>(&self, alloc: B) -> Result<String<B>, AllocError>
-        ensures { IfOk result (λ text. string_bytes text ≡ sequence_text self.now) }
+        ensures text { IfOk result (λ text. string_bytes text ≡ sequence_text self.now) }
+        ensures again { IfOk result (λ text. sequence_at (string_bytes text) ≡ Ok self.now) }
     {
         let mut text = String::new(alloc);
         self.root.print_to(&mut text)?;

@@ -3,5 +3,6 @@ pub mod Causes
 pub mod Doubled
 pub mod Index
 pub mod Keys
+pub mod Lists
 pub mod Placed
 pub mod Table

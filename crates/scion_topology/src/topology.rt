@@ -5,6 +5,7 @@ ghost use Rattle.json_fields.specs.Documents.{node_data};
 ghost use Rattle.refusal.specs.Refusal.{Reads, unless};
 ghost use Rattle.scion_topology.specs.Causes.{cause_of};
 ghost use Rattle.scion_topology.specs.inner.Causes.{is_as, is_link};
+ghost use Rattle.scion_topology.specs.inner.Lists.{HasLists};
 ghost use Rattle.scion_topology.specs.Topology.{network_of, network_in};
 
 use crate::as_lookup::AsLookup;
@@ -69,10 +70,13 @@ impl Topology {
         Topology::from_object(alloc, &document.root())
     }
 
-    /// The network of a JSON object.
+    /// The network of a JSON object; or memory runs out, which it can only if `ases` and `links` are
+    /// lists.
     #[tactic(auto, unfolding(crate::specs::Topology::network_of))]
     fn from_object(alloc: Global, object: &Node<'_, '_>) -> Result<Topology, ReadError>
-        ensures { Reads (λ n. n) result (network_of (node_data object.now)) }
+        ensures value { Reads (λ n. n) result (network_of (node_data object.now)) }
+        ensures wanted { IfErr result (λ error. error ≡ OrMemory.Memory
+            → HasLists (node_data object.now)) }
     {
         let as_items = object.list("ases").ok_or(TopologyFault::BadField)?;
         let link_items = object.list("links").ok_or(TopologyFault::BadField)?;

@@ -22,7 +22,7 @@ pub(crate) fn beacons<S: Source>(
         × AreBeaconLines (one_line bytes) (string_bytes text))) }
 {
     let topology = read_all(alloc, source, MAX_INPUT_LEN as u64)?;
-    match beacon_lines(alloc, &topology, options) {
+    match beacon_lines(alloc, topology, options) {
         Ok(lines) => Ok(lines),
         Err(OrMemory::Memory) => Err(CommandFault::Memory),
         Err(OrMemory::Refused(_)) => Err(CommandFault::Topology),

@@ -13,12 +13,13 @@ pub record KnownOperations : Type 0 where
   pub board : Book
   pub seen : List StoreOp
 
--- a reader: its board, the published operations that it has seen, and those of which it was told
--- last, if they were new to it
+-- a reader: its board, the published operations that it has seen, those of which it was told last,
+-- if they were new to it, and those that it found when it entered last
 pub record Informed : Type 0 where
   pub board : Book
   pub seen : List StoreOp
   pub told : List StoreOp
+  pub found : List StoreOp
 
 -- the writer: its board, the number of editions published there, the operations published with the
 -- newest of them, and the operations that are pending
@@ -28,8 +29,9 @@ pub record Written : Type 0 where
   pub published : List StoreOp
   pub pending : List StoreOp
 
--- the error of a lookup: the reader could not enter, and has seen nothing more; or memory ran out,
--- about which nothing is claimed
+-- the error of a lookup: the reader could not enter, or found less than it had seen, and has seen
+-- nothing more; or memory ran out once it had entered, and it has seen what it found
 abbrev pub GivesNothing : (fault : OrMemory BoardFault) (before after : Informed) → Type 0
-GivesNothing Memory before after = Unit {0}
-GivesNothing (Refused fault) before after = (fault ≡ NoEntry) × (after ≡ before)
+GivesNothing Memory before after = after.found ≡ after.seen
+GivesNothing (Refused fault) before after =
+    (fault ≡ NoEntry) × (after ≡ record before { found = after.found })

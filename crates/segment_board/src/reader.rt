@@ -1,6 +1,6 @@
 //! Readers of a board, which never wait.
 
-ghost use Rattle.std.specs.Prelude.{◌≡◌, ◌⊎◌, Some, IfOk, IfErr, IfNone, IfSome};
+ghost use Rattle.std.specs.Prelude.{◌≡◌, ◌⊎◌, Some, IfOk, IfErr, IfNone, IfSome, OnOk};
 ghost use mathlib.Core.List.{IsPrefix};
 ghost use Rattle.left_right.specs.Sides.{view as view_of};
 ghost use Rattle.path_server.specs.Store.{store_of};
@@ -19,8 +19,8 @@ use refusal::OrMemory;
 use std::alloc::{AllocError, Global};
 use std::marker::Model;
 
-/// A reader of a board. In contracts it is its board, the operations that it has seen, and those
-/// that it was told.
+/// A reader of a board. In contracts it is its board, the operations that it has seen, those that
+/// it was told, and those that it found when it entered last.
 #[derive(Drop)]
 pub struct BoardReader {
     pub(crate) place: StoreReader,
@@ -30,7 +30,7 @@ pub struct BoardReader {
 
 impl Model for BoardReader {
     ghost use Rattle.left_right.specs.Sides.{view as view_of};
-    ghost use Rattle.segment_board.specs.History.{newest};
+    ghost use Rattle.segment_board.specs.History.{found_operations, newest};
     ghost use Rattle.segment_board.specs.Rule.{HasSeen};
     ghost use Rattle.segment_board.specs.Board.{Informed};
 
@@ -40,6 +40,7 @@ impl Model for BoardReader {
       board = r.front.board;
       seen = (newest r.front.log).operations;
       told = (newest r.told.log).operations;
+      found = found_operations (view_of r.place.place);
     } };
 
     ghost invariant = { λ r. HasSeen (view_of r.place.place) r.front r.told };
@@ -105,7 +106,7 @@ impl BoardReader {
     /// for nobody.
     ///
     /// [`BoardFault::NoEntry`] if the reader could not enter the board. It has seen nothing more
-    /// then, and the caller may try again.
+    /// then, and the caller may try again. Memory can run out only once it has entered.
     pub fn lookup(
         &mut self,
         alloc: Global,
@@ -118,6 +119,7 @@ impl BoardReader {
             (λ set. set ≡ segments_for (store_of self.new.seen) src dst now) }
         ensures later { IsPrefix self.old.seen self.new.seen }
         ensures told { self.new.told ≡ self.old.told }
+        ensures entered { OnOk result (self.new.found ≡ self.new.seen) }
         ensures none { IfErr result (λ fault. GivesNothing fault self.old self.new) }
     {
         let asked = StoreQuery {

@@ -128,7 +128,7 @@ pub record PassesSome (accepted : AcceptedLines) (lines : List (List ℕ)) (old 
 
 -- the lines of these bytes were answered, and the replies written: all; or those up to a topology
 -- that was refused; or those before memory ran out, in a run that may go on; or a beginning of the
--- replies
+-- replies. No reply is left that was not written, unless a write failed.
 abbrev pub Exchanges : AcceptedLines → Result (Unit {0}) RunFault → List ℕ → SessionValue
     → SessionValue
     → Option (List ℕ) → Option (List ℕ) → Type 0
@@ -138,13 +138,13 @@ Exchanges accepted (Ok done) bytes old new held holds = (lines : List (List ℕ)
 Exchanges accepted (Err faults.Topology) bytes old new held holds =
     (lines later : List (List ℕ)) × (rest : List ℕ)
     × (AreLines (old.rest ++ bytes) (lines ++ later) rest
-    × Passes accepted lines old Closed held holds)
+    × (Passes accepted lines old Closed held holds × (new.replies ≡ [])))
 Exchanges accepted (Err faults.Memory) bytes old new held holds =
     (lines later : List (List ℕ)) × (rest : List ℕ)
     × ((stage : Stage)
     × (AreLines (old.rest ++ bytes) (lines ++ later) rest
     × (HasMore later rest × (GoesOn stage
-    × Passes accepted lines old stage held holds))))
+    × (Passes accepted lines old stage held holds × (new.replies ≡ []))))))
 Exchanges accepted (Err faults.Write) bytes old new held holds =
     (lines later : List (List ℕ)) × (rest : List ℕ)
     × (AreLines (old.rest ++ bytes) (lines ++ later) rest

@@ -1,7 +1,7 @@
--- The line so far is that of the bytes so far.
-use Rattle.std.proofs.Common.{◌≡◌, take}
-use Rattle.beacon_lines.specs.Lines.{one_line}
+-- The bytes so far stand in the line.
+use Rattle.std.proofs.Common.{◌≡◌}
+use Rattle.beacon_lines.proofs.InLine.{line_up_to}
 use Rattle.beacon_lines.proofs.lines.to_one_line.Given as goal
 
 abbrev pub invariant-loop-byte : goal.invariant-loop-byte
-invariant-loop-byte l = l.line.items ≡ one_line (take l.byte-index l.bytes)
+invariant-loop-byte l = l.bytes ≡ line_up_to l.initial.bytes l.byte-index

@@ -39,6 +39,7 @@ returns-in_err-exchange-clause-heard g c =
     (session_value c.exchange.new.session) c.in-Some.bytes.now c.in_err-exchange.field-0.0
     (IsAtEnd (g.S.Source.left c.read_into.new.source)) c.loop-bytes.invariant.far
     (let fits = c.wanted_after-wanted.ensures.fits (omega (arith, c.loop-bytes.invariant.far.few, c.if-count-eq-MAX_INPUT_LEN.false)) in grind (arith, common_steps, brought.1.1, fits))
+    (let room = c.wanted_after-wanted.ensures.room in grind (arith, common_steps, brought.1.1, room))
     brought.0 c.in_err-exchange.ensures.told)
 
 pub returns-in_default-clause-heard : goal.returns-in_default-clause-heard

@@ -4,7 +4,8 @@ use Rattle.std.specs.Prelude.{Ok, Err}
 use Rattle.clap.specs.Words.{App, is_simple, subcommand_of, Text}
 use Rattle.clap.specs.Faults.{fault_of, is_simple_and_free}
 use Rattle.clap.specs.Kinds.{HasKind}
-use Rattle.commands.proofs.Asked.{Asks-none, Asks-words, asked-nothing, named-found, named-refused, told-refused, is_program_free, is_program_simple}
+use Rattle.commands.specs.declared.fault.WordsFault.TheVariants.{NoCommand}
+use Rattle.commands.proofs.Asked.{Asks-words, asked-nothing, named-found, named-refused, told-refused, is_program_free, is_program_simple}
 use Rattle.commands.proofs.command.Command.parse.Goals as goal
 
 pub returns-then-is_empty-clause-asks : goal.returns-then-is_empty-clause-asks
@@ -48,5 +49,6 @@ returns-clause-asks c =
     ap (λ (a : App). fault_of a words) (sym app) ∙ c.in-Ok.ensures.kinds (ap is_simple_and_free app ∙ is_program_free) in
     let found =
     (c.in-Ok.ensures.matches (ap is_simple app ∙ is_program_simple)).1 ∙ ap (λ (a : App). subcommand_of a words) app in
-    Asks-words c.args.words.now (λ word. word.now) (Err c.no_command.result) (search (rules, c.if-is_empty.ensures))
-    (Asks-none c.no_command.result _ c.no_command.ensures (named-found words _ _ none found c.in_ok-command.ensures.value ∙ c.in-None.is))
+    Asks-words c.args.words.now (λ word. word.now) (Err NoCommand)
+    (search (rules, c.if-is_empty.ensures))
+    (named-found words _ _ none found c.in_ok-command.ensures.value ∙ c.in-None.is)

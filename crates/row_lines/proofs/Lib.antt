@@ -1,0 +1,5 @@
+pub mod Read
+pub mod Told
+pub mod Every
+pub mod Split
+pub mod Delivering
