@@ -6,7 +6,8 @@ the static libraries over what `rt ci` has proved, since that leaves none, and r
 by each compiler that is there (the kit's clang is), in C++, in Python, as a package too, in Rust
 and in JavaScript. Their answers are held to what the rules of routers and of paths say.
 `answers.py` compares random requests for paths with a search that tries every list of pieces, and
-`packets.py` whole packets with a second reader of them. The commands by which bindings/README.md links are run as they stand.
+`packets.py` whole packets with a second reader of them. The commands by which bindings/README.md
+links are run as they stand.
 
 What is not on the machine is told, and left out; but without a compiler for C nothing would be
 tested, so that the status is 1 then, unless the word is `--without-compiler`. It is 1 too where an

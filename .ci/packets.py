@@ -6,7 +6,8 @@ object. Then it changes packets at random and gives them to `scion_whole_packet_
 reader below, which was written from the layout of docs/router.md alone: both have to say the same,
 or refuse the packet for the same reason. What was read has to be written as the same bytes; the
 reply has to be the one that the layout says; and a turn has to be that of the packet's frame, with
-all other bytes as before. The last line has the numbers; the status is 1 where something differs."""
+all other bytes as before. The last line has the numbers; the status is 1 where something
+differs."""
 import os
 import random
 import sys
@@ -37,7 +38,7 @@ def cases():
     with open(CASES, encoding="utf-8") as it:
         rows = [line.rstrip("\n").split("\t") for line in it]
     for name, ia, number, now, arrival, interface, key, previous, table, data, *given in rows:
-        parts = [[int(it) for it in row.split(",")] for row in table.split()] if table != "-" else []
+        parts = [map(int, row.split(",")) for row in table.split() if row != "-"]
         router = Router(int(ia, 16), unhex(key), [Interface(*it) for it in parts],
                         unhex(previous), int(number))
         packet = Packet(unhex(data), int(arrival), int(interface))
@@ -138,7 +139,8 @@ def reply(data):
 
 
 def changed(rng, data):
-    """A packet with some of its bytes changed, most in front of its path header, or cut or longer."""
+    """A packet with some of its bytes changed, half of them in front of its path header, or cut,
+    or longer."""
     data = bytearray(data)
     for _ in range(rng.choice((0, 1, 1, 1, 2, 3))):
         if not data:
@@ -233,7 +235,8 @@ def main(words):
     for _ in range(count):
         _, router, now, packet, _ = rng.choice(given)
         comparison.one(router, now, packet._replace(bytes=changed(rng, packet.bytes)))
-    print(f"packets: {len(given)} cases, {comparison.seen} packets, {comparison.taken} of them read,"
+    seen, taken = comparison.seen, comparison.taken
+    print(f"packets: {len(given)} cases, {seen} packets, {taken} of them read,"
           f" {comparison.wrong} differences")
     return 1 if comparison.wrong else 0
 

@@ -181,8 +181,8 @@ impl<'a> WholePacket<'a> {
     /// The bytes of this packet.
     ///
     /// # Errors
-    /// The flow is not below 2^20, the path begins with no path header, or the payload has more than
-    /// 65,535 bytes.
+    /// The flow is not below 2^20, the path begins with no path header, or the payload has more
+    /// than 65,535 bytes.
     pub fn to_bytes(&self) -> Result<Vec<u8>, PacketFault> {
         let record = self.info.record();
         let mut room = vec![0; MAX_FRONT_LEN + self.path.len() + self.payload.len()];
@@ -205,8 +205,8 @@ impl<'a> WholePacket<'a> {
     }
 }
 
-/// Replaces a whole packet by the reply to it: hosts and ASes are exchanged, the path is that of the
-/// way back, and the payload stays.
+/// Replaces a whole packet by the reply to it: hosts and ASes are exchanged, the path is that of
+/// the way back, and the payload stays.
 ///
 /// # Errors
 /// The first reason why the bytes are no whole packet; then none has changed.

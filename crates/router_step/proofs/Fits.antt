@@ -86,12 +86,13 @@ fits_on_arrival arrival header is fits =
     (chosen (is_over_link arrival && not info.construction) (beta_after info.seg_id hop.mac)
     info.seg_id (stepped info.seg_id hop small (hop_fits header is.curr_hf fits)) small)
 
-fits_gone : (outcome : Outcome) (there : HeaderValue) → FitsBits there → IsHeader (header_on_leaving outcome there)
-    → FitsBits (header_on_leaving outcome there)
+fits_gone : (outcome : Outcome) (there : HeaderValue) → FitsBits there
+    → IsHeader (header_on_leaving outcome there) → FitsBits (header_on_leaving outcome there)
 fits_gone (ToLink interface) there fits is =
     let within : there.curr_inf < length there.infos = rw length-set at is.curr_inf in
     let more : there.curr_hf + 1 < length there.hops = is.curr_hf in
-    let made = fits_with there (seg_id_on_leaving (current_info there) (current_hop there)) within fits
+    let made = fits_with there (seg_id_on_leaving (current_info there) (current_hop there))
+    within fits
     (on_leaving (current_info there) (current_hop there) (info_fits there within fits).seg_id
     (hop_fits there (omega arith) fits)) in
     record { infos = made.infos; hops = made.hops }

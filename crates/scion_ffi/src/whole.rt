@@ -148,8 +148,8 @@ fn packet_of<'a>(
 /// One turn of this router at the second `now` on a whole packet, in place.
 ///
 /// It is for whole packets what [`crate::scion_step`] is for frames, and refuses a router and a way
-/// in as that does. Then come the refusals of [`scion_packet::read`] (160 to 164, and 90 between 162
-/// and 163), and those of the router (91 to 100).
+/// in as that does. Then come the refusals of [`scion_packet::read`] (160 to 164, and 90 between
+/// 162 and 163), and those of the router (91 to 100).
 #[unsafe(no_mangle)]
 pub extern "C" fn scion_whole_packet_step(
     router: &ScionRouter<'_>,
@@ -178,8 +178,8 @@ pub extern "C" fn scion_whole_packet_step(
 /// Writes what a whole packet says to `info`.
 ///
 /// `number` is the length of all its headers, behind which the payload begins, and the path header
-/// stands between `info.path_start` and there. If the bytes are no whole packet, `code` is the first
-/// refusal of [`scion_packet::read`] (160 to 164, or 90), and `info` is as before.
+/// stands between `info.path_start` and there. If the bytes are no whole packet, `code` is the
+/// first refusal of [`scion_packet::read`] (160 to 164, or 90), and `info` is as before.
 #[unsafe(no_mangle)]
 pub extern "C" fn scion_whole_packet_read(packet: &[u8], info: &mut ScionPacketInfo) -> ScionAnswer
     ensures { IsPacketRead (whole_packet_at packet.now) info.old info.new result }
@@ -198,8 +198,8 @@ pub extern "C" fn scion_whole_packet_read(packet: &[u8], info: &mut ScionPacketI
 ///
 /// `number` is the length of all headers, so that the packet has this length and that of its
 /// payload. Else `code` is the first of these refusals, and the room is as before: a host's address
-/// or the flow does not fit (11); `path` does not begin with a path header (90); the payload has more
-/// than 65,535 bytes (165); the room is too short (27).
+/// or the flow does not fit (11); `path` does not begin with a path header (90); the payload has
+/// more than 65,535 bytes (165); the room is too short (27).
 #[unsafe(no_mangle)]
 pub extern "C" fn scion_whole_packet_write(
     info: &ScionPacketInfo,

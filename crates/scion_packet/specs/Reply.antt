@@ -21,7 +21,8 @@ reply_to v = record {
   payload = v.payload;
 }
 
--- the bytes spell the reply to the packet that was read; or it is refused, and they are as they were
+-- the bytes spell the reply to the packet that was read; or it is refused, and they are as they
+-- were
 abbrev pub IsReplied : (packet : Result WholePacketValue PacketFault) (old new : List ℕ)
     (result : Result (Unit {0}) PacketFault) → Type 0
 IsReplied (Ok v) old new result = (result ≡ Ok tt) × SpellsPacket new (reply_to v)
