@@ -1,0 +1,196 @@
+"""Reports of random networks, over the programs that `rt ci` has proved and built.
+
+Each network is beaconed by `scionet_view beacons`, and some of its links are cut. Each line of
+`scionet_view report` has to be what is computed here from the answers of `scionet run`: the paths
+none of whose links is down, the best of them, the pairs of them that share no link, the links that
+all of them cross, and at the end the links that most pairs need; with a policy and without one, and
+also for answers that are as long as the limit. Then a link between two ISDs is cut: exactly the
+pairs that need it lose their paths.
+
+The last line has the number of lines, of networks, and of what was wrong; the status is 1 where
+something was."""
+import concurrent.futures
+import itertools
+import json
+import os
+import random
+from collections.abc import Sequence
+
+from gate import TOP, children, networks
+from gate.words import reader
+
+VIEW, RUN = (str(TOP / "crates" / name / "out" / name) for name in ("scionet_view", "scionet"))
+SEED, NETWORKS = 1, 60
+
+# The most ASes of a network, the most paths of an answer to a request, the second at which all
+# beacons are begun, the lifetime of a hop in half seconds, and the links that are named at the end.
+ASES, ANSWER, NOW, LIFETIME, NAMED = 16, 64, 1000, 675, 10
+
+# A core link of this network is the only one between its two ISDs.
+PAIR, CORE = "examples/pair.txt", "1-ff00:0:110#2~2-ff00:0:210#1"
+
+
+def ran(words, given):
+    return children.output(words, given.encode()).decode().splitlines()
+
+
+def named(ends):
+    """A link by its ends."""
+    return "~".join(f"{ia}#{number}" for ia, number in ends)
+
+
+class Network:
+    """A network whose topology is beaconed, and some of whose links are cut."""
+
+    def __init__(self, rng, per_pair):
+        grown = iter(lambda: networks.Topology(rng), None)
+        self.topology = next(it for it in grown if len(it.names) <= ASES)
+        words = [VIEW, "beacons", "--per-pair", str(per_pair), "--now", str(NOW)]
+        self.lines = ran(words, self.topology.line())
+        links = self.topology.links
+        cut = rng.sample(links, min(rng.choice((0, 0, 1, 2)), len(links)))
+        self.down = {end for link in cut for end in link.ends}
+        for link in cut:
+            ia, number = link.ends[0]
+            self.lines.append(networks.event("cut", ia=ia, **{"if": number}))
+
+    def asked(self, pairs, limit, policy):
+        """The walks of the answer for each pair."""
+        asks = [
+            networks.event("ask", src=one, dst=other, limit=limit, **policy) for one, other in pairs
+        ]
+        replies = ran([RUN], "\n".join(self.lines + asks) + "\n")[len(self.lines):]
+        for reply in replies:
+            yield [networks.read_walk(text) for text in reply.split("; ")[1:]]
+
+    def until(self, walk):
+        """The last second at which all hops of a walk are live."""
+        lives = (self.topology.ases[hop.ia]["exp"] + 1 for hop in walk)
+        return (2 * NOW + LIFETIME * min(lives)) // 2
+
+    def line(self, pair, walks, is_full):
+        """The line of a pair, and the links that it needs."""
+        crossed = [self.topology.links_of(walk) for walk in walks]
+        open_walks = [walk for walk, ends in zip(walks, crossed) if not ends & self.down]
+        crossed = [ends for ends in crossed if not ends & self.down]
+        more = "+" if is_full else ""
+        line = f"{pair[0]} {pair[1]} paths {len(crossed)}{more}"
+        if not crossed:
+            return line, []
+        apart = sum(one.isdisjoint(other) for one, other in itertools.combinations(crossed, 2))
+        best = open_walks[0]
+        line += f" hops {len(best)} until {self.until(best)} disjoint {apart}{more} needs "
+        if is_full:
+            return line + "unknown", []
+        ends = set.intersection(*crossed)
+        needed = [named(link.ends) for link in self.topology.links if link.ends[0] in ends]
+        return line + " ".join([str(len(needed)), *needed]), needed
+
+    def summary(self, needs):
+        """The lines at the end, for the links that the pairs need."""
+        links = [named(link.ends) for link in self.topology.links]
+        counts = {link: sum(link in needed for needed in needs) for link in links}
+        ranked = sorted((it for it in links if counts[it]), key=lambda it: -counts[it])
+        return [f"link {it} pairs {counts[it]}" for it in ranked[:NAMED]]
+
+
+def options(policy):
+    """The words of a policy."""
+    entries = [word for entry in policy.get("acl", ()) for word in ("--acl", entry)]
+    return entries + (["--sequence", policy["sequence"]] if "sequence" in policy else [])
+
+
+def compared(network, pairs, limit, policy, words):
+    """How many lines of a report were compared, and which of them are not as computed here. Where
+    an answer to a request is as long as it may be, the report may have more paths."""
+    walks = list(network.asked(pairs, limit, policy))
+    rows = [network.line(pair, it, len(it) == limit) for pair, it in zip(pairs, walks)]
+    is_known = limit < ANSWER or all(len(it) < ANSWER for it in walks)
+    wanted = [line for line, _ in rows]
+    given = "\n".join(network.lines) + "\n"
+    found = ran([VIEW, "report", *words, *options(policy)], given)
+    if is_known:
+        wanted += network.summary([needed for _, needed in rows])
+    else:
+        found = found[: len(pairs)]
+    both = [
+        (one, other) for place, (one, other) in enumerate(itertools.zip_longest(found, wanted))
+        if place >= len(pairs) or limit < ANSWER or len(walks[place]) < ANSWER
+    ]
+    return len(both), [f"{one!r}, not {other!r}" for one, other in both if one != other]
+
+
+def tried(seed, number):
+    """What was compared in a network, and what was wrong with it."""
+    rng = random.Random(f"{seed} {number}")
+    network = Network(rng, rng.choice((1, 2, 4)))
+    names = network.topology.names
+    pairs = list(itertools.permutations(names, 2))
+    rows = [compared(network, pairs, ANSWER, {}, [])]
+    some = rng.randint(1, 3)
+    rows.append(compared(network, pairs, some, {}, ["--limit", str(some)]))
+    walks = [walk for answer in network.asked(pairs, ANSWER, {}) for walk in answer]
+    if walks:
+        walk = rng.choice(walks)
+        policy = networks.Policy(rng, walk).members()
+        rows.append(compared(network, pairs, ANSWER, policy, []))
+        one, other = walk[0].ia, walk[-1].ia
+        rows.append(compared(network, [(one, other)], ANSWER, {}, ["--from", one, "--to", other]))
+    wrong = [f"network {number} of seed {seed}: {it}" for row in rows for it in row[1]]
+    return sum(row[0] for row in rows), wrong
+
+
+def cut_core():
+    """In the example with one link between two ISDs: that link is needed by exactly the pairs that
+    lose their paths when it is cut, and nothing else changes."""
+    topology = (TOP / PAIR).read_text().splitlines()[0]
+    lines = ran([VIEW, "beacons", "--now", str(NOW)], topology)
+    ia, number = CORE.split("~")[0].split("#")
+    cut = json.dumps({"do": "cut", "ia": ia, "if": int(number)})
+    reports = (ran([VIEW, "report"], "\n".join(it) + "\n") for it in (lines, lines + [cut]))
+    before, after = ([it for it in report if not it.startswith("link ")] for report in reports)
+    wrong = []
+    for line, later in zip(before, after):
+        one, other = line.split(" ")[:2]
+        is_apart = one.partition("-")[0] != other.partition("-")[0]
+        if (CORE in line) != is_apart:
+            wrong.append(f"needs the core link, or does not: {line}")
+        if later != (f"{one} {other} paths 0" if is_apart else line):
+            wrong.append(f"behind a cut: {later!r}, not {line!r}")
+    return len(before) + len(after), wrong
+
+
+def refusals():
+    """What is refused: words with status 2, and addresses of no AS or of one."""
+    lines = (TOP / PAIR).read_text()
+    rows = (
+        (["--to", "1-ff00:0:119"], 0, "no 14 UnknownAs\n"),
+        (["--from", "1-ff00:0:110", "--to", "1-ff00:0:110"], 0, "no 85 SameAs\n"),
+        (["--acl", "- 1"], 2, "65 NoDefault: the last entry of a list has no predicate\n"),
+        (["--sequence", "(1"], 2, "62 Unbalanced: the parentheses of a sequence don't match\n"),
+        (["--from", "1"], 2, "1 NoDash: an address has a '-' between its ISD and its AS number\n"),
+    )
+    for words, status, text in rows:
+        text = f"scionet_view: no {text}" if status else text
+        done = children.run([VIEW, "report", *words], lines.encode())
+        found = (done.stderr if status else done.stdout).decode()
+        if done.returncode != status or found != text:
+            yield f"{words}: status {done.returncode}, {found!r}, not {text!r}"
+
+
+def main(words: Sequence[str]) -> int:
+    words_of = reader(__name__, __doc__)
+    words_of.add_argument("--seed", type=int, default=SEED, help="of the networks")
+    words_of.add_argument("--networks", type=int, default=NETWORKS, help="how many")
+    given = words_of.parse_args(words)
+    seed, count = given.seed, given.networks
+    with concurrent.futures.ThreadPoolExecutor(os.cpu_count()) as pool:
+        rows = list(pool.map(lambda number: tried(seed, number), range(count)))
+    rows.append(cut_core())
+    wrong = [it for row in rows for it in row[1]] + list(refusals())
+    for it in wrong[:20]:
+        print(f"report: {it}")
+    lines = sum(row[0] for row in rows)
+    print(f"report: {lines} lines in {len(rows)} networks, {len(wrong)} wrong")
+    return 0 if lines and not wrong else 1
+
