@@ -99,17 +99,22 @@ class Refusals:
         return ", ".join(it for it, _ in itertools.groupby(told))
 
 
-def events(specs):
-    """The words of lines by the event and the route that they mean, in the order of events."""
-    words = {}
+def readings(specs):
+    """The words of lines, each with the definition that reads its members."""
     for name in "event_in", "plain_event", "traffic_event":
         text = specs.named(f"event_lines/Line.{name}").said
         for part in text.split('bytes_eq word (codes "')[1:]:
             word, _, body = part.partition('"')
-            if called := re.search(r"then (\w+_in) d", body):
-                body = specs.named(f"event_lines/Line.{called[1]}").said
-            made = re.search(r"Some \(?(\w+)(?: \((\w+))?", body)
-            words[made[1], made[2]] = word
+            called = re.search(r"then (\w+_in) d", body)
+            yield word, specs.named(f"event_lines/Line.{called[1]}").said if called else body
+
+
+def events(specs):
+    """The words of lines by the event and the route that they mean, in the order of events."""
+    words = {}
+    for word, body in readings(specs):
+        made = re.search(r"Some \(?(\w+)(?: \((\w+))?", body)
+        words[made[1], made[2]] = word
     order = specs.named("network_core/Event.EventValue").variants
     return sorted(words.items(), key=lambda it: order.index(it[0][0]))
 

@@ -46,6 +46,9 @@ STEPS = (
     Step("crates", CHECK),
     Step("examples", CHECK),
     Step("lines", CHECK),
+    Step("line_words"),
+    Step("router"),
+    Step("figures"),
     Step("links"),
     Step("names"),
     Step("rows"),
@@ -61,6 +64,7 @@ STEPS = (
     Step("playground"),
     Step("bindings", minutes=60),
     Step("documents"),
+    Step("pictures"),
     Step("growth"),
     Step("refuse"),
 )
