@@ -1,6 +1,6 @@
 """The whole merge gate, as `.ci/run` calls it. What documents say and the tests of these scripts
 come first, in seconds; then every proof, wrong body and test (`rt ci`); then what is tried over the
-programs that this has built.
+programs that this has built, and over no others.
 
 It stops at the first step that fails. The last line has the number of steps that were run, and what
 was skipped in them since a tool is missing; with `--strict` a step that skips something fails."""
@@ -10,10 +10,14 @@ from collections.abc import Sequence
 from dataclasses import dataclass
 
 from gate import machine
+from gate.built import Built
 from gate.children import Limit
 from gate.words import reader
 
 MINUTE = 60
+
+# The step that builds what those behind it try.
+BUILDS = "rt"
 
 
 @dataclass(frozen=True)
@@ -30,8 +34,8 @@ class Step:
 
     @property
     def command(self) -> list[str]:
-        if self.check == "rt":
-            return ["rt", *self.words]
+        if self.check == BUILDS:
+            return [BUILDS, *self.words]
         return [sys.executable, ".ci/gate", self.check, *self.words]
 
 
@@ -54,7 +58,7 @@ STEPS = (
     Step("rows"),
     Step("kit"),
     Step("unit"),
-    Step("rt", ("ci",), minutes=600),
+    Step(BUILDS, ("ci",), minutes=600),
     Step("cases"),
     Step("theorem"),
     Step("beaconing"),
@@ -82,15 +86,28 @@ def ran(step: Step) -> tuple[str, str]:
     return last, limit.fault or (f"status {status}" if status else "")
 
 
+def judged(step: Step, built: Built | None, is_strict: bool) -> tuple[list[str], str]:
+    """What a step has skipped, and why it failed. Behind `rt ci` it has to find what that built."""
+    if built and step.check != BUILDS and (wrong := built.faults()):
+        return [], "; ".join(wrong)
+    last, fault = ran(step)
+    missed = machine.skipped(last)
+    if built and step.check == BUILDS and not fault:
+        fault = "; ".join(built.note())
+    if not fault and missed and is_strict:
+        fault = f"{', '.join(missed)} skipped"
+    return missed, fault
+
+
 def run_all(steps: Sequence[Step], is_strict: bool) -> tuple[str, int]:
     """The last line and the status of these steps, one after the other."""
     skipped: dict[str, None] = {}
+    built: Built | None = None
     for count, step in enumerate(steps, 1):
-        last, fault = ran(step)
-        missed = machine.skipped(last)
+        if step.check == BUILDS:
+            built = Built()
+        missed, fault = judged(step, built, is_strict)
         skipped.update(dict.fromkeys(missed))
-        if not fault and missed and is_strict:
-            fault = f"{', '.join(missed)} skipped"
         if fault:
             return f"gate: step {count} of {len(steps)}, {step.name}: {fault}", 1
     told = machine.SKIPPED + ", ".join(skipped) if skipped else ""

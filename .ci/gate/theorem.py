@@ -5,7 +5,8 @@ delivered packets, ticks, changes of keys, cuts and alterations come in any orde
 that are refused. As long as the premises hold for a packet, each of its turns has one right reply,
 which follows from its walk and the topology; it is delivered by the last of them, and `show` has
 the hops that it has passed. Each walk of an answer joins links of the topology and is one that the
-request's policy allows.
+request's policy allows; and an answer has a path where one was answered before, or where a segment
+leads from one of the ASes to the other.
 
 Then each premise that lines can break is left out, in networks of their own, and packets must fail.
 
@@ -64,6 +65,7 @@ class Network:
         """Nothing that was issued before is used any more, so that the premises begin anew."""
         self.last = self.now + 675 * (min(it["exp"] for it in self.topology.ases.values()) + 1) // 2
         self.beacons, self.ways, self.flying, self.arrived = [], [], [], []
+        self.joined = set()  # the ends of segments that are stored and live
         self.changed, self.stale, self.cut = set(), set(), set()
         self.busy = collections.Counter()
 
@@ -120,9 +122,14 @@ class Network:
     def terminate(self):
         if self.beacons:
             beacon = self.rng.choice(self.beacons)
-            right = ("segment new", "segment known", "no 42 LinkDown", "no 50 Full")
             line = event("terminate", beacon=beacon.number, ia=beacon.at)
-            self.say(line, lambda reply: reply in right)
+            self.say(line, functools.partial(self.has_segment, beacon))
+
+    def has_segment(self, beacon, reply):
+        if reply in ("segment new", "segment known"):
+            self.joined.add(frozenset((beacon.ases[0], beacon.at)))
+            return True
+        return reply in ("no 42 LinkDown", "no 50 Full")
 
     # Requests and packets.
 
@@ -139,8 +146,16 @@ class Network:
         limit = self.rng.choice((1, 2, 3, 5))
         members = {"src": between[0], "dst": between[1], "limit": limit, **self.asked_for(policies)}
         number, self.answers = self.answers, self.answers + 1
-        check = functools.partial(self.has_answer, number, between, policies)
+        least = int(self.has_path(between, known, policies))
+        check = functools.partial(self.has_answer, number, between, policies, least)
         self.say(event("ask", **members), check)
+
+    def has_path(self, between, known, policies):
+        """Whether there is a path that the policies allow, by what was heard so far: one that was
+        answered before, or a segment between the two ASes."""
+        if policies:
+            return any(it.allows(walk) for it in policies for walk in known)
+        return bool(known) or frozenset(between) in self.joined
 
     def asked_for(self, policies):
         """The members of a request that say its policy: one option stands for itself."""
@@ -149,14 +164,15 @@ class Network:
             return {"options": [{"weight": w, **it.members()} for w, it in zip(weights, policies)]}
         return policies[0].members() if policies else {}
 
-    def has_answer(self, number, between, policies, reply):
+    def has_answer(self, number, between, policies, least, reply):
         first, *walks = reply.split("; ")
         walks = [read_walk(it) for it in walks]
         self.ways += [Way(number, place, walk) for place, walk in enumerate(walks)]
         is_allowed = not policies or any(all(map(it.allows, walks)) for it in policies)
         are_between = all([it[0].ia, it[-1].ia] == between for it in walks)
         are_joined = all(map(self.topology.joins, walks))
-        return first == f"ask {number} {len(walks)}" and is_allowed and are_between and are_joined
+        is_told = first == f"ask {number} {len(walks)}" and len(walks) >= least
+        return is_told and is_allowed and are_between and are_joined
 
     def send(self):
         if self.ways:
