@@ -4,8 +4,9 @@ Each network is beaconed by `scionet_view beacons`, and some of its links are cu
 `scionet_view report` has to be what is computed here from the answers of `scionet run`: the paths
 none of whose links is down, the best of them, the pairs of them that share no link, the links that
 all of them cross, and at the end the links that most pairs need; with a policy and without one, and
-also for answers that are as long as the limit. Then a link between two ISDs is cut: exactly the
-pairs that need it lose their paths.
+also for answers that are as long as the limit. Of some pairs the answers are compared with the
+search of `answers.py` over the segments, which tries every list of pieces. Then a link between two
+ISDs is cut: exactly the pairs that need it lose their paths.
 
 The last line has the number of lines, of networks, and of what was wrong; the status is 1 where
 something was."""
@@ -16,7 +17,7 @@ import os
 import random
 from collections.abc import Sequence
 
-from gate import TOP, children, networks
+from gate import TOP, answers, children, networks
 from gate.words import reader
 
 VIEW, RUN = (str(TOP / "crates" / name / "out" / name) for name in ("scionet_view", "scionet"))
@@ -25,6 +26,9 @@ SEED, NETWORKS = 1, 60
 # The most ASes of a network, the most paths of an answer to a request, the second at which all
 # beacons are begun, the lifetime of a hop in half seconds, and the links that are named at the end.
 ASES, ANSWER, NOW, LIFETIME, NAMED = 16, 64, 1000, 675, 10
+
+# The pairs of a network whose walks are searched.
+SEARCHED = 12
 
 # A core link of this network is the only one between its two ISDs.
 PAIR, CORE = "examples/pair.txt", "1-ff00:0:110#2~2-ff00:0:210#1"
@@ -62,6 +66,38 @@ class Network:
         replies = ran([RUN], "\n".join(self.lines + asks) + "\n")[len(self.lines):]
         for reply in replies:
             yield [networks.read_walk(text) for text in reply.split("; ")[1:]]
+
+    def segments(self):
+        """The segments that the lines register, as `answers.py` has them, without authenticators."""
+        beacons, kinds = [], {it.ends: it.kind for it in self.topology.links}
+        for line in map(json.loads, self.lines[1:]):
+            if line["do"] == "originate":
+                beacons.append([(line["ia"], 0, line["egress"])])
+            elif line["do"] in ("extend", "terminate"):
+                way = beacons[line["beacon"]]
+                near = way[-1][0], way[-1][2]
+                far = self.topology.far[near]
+                longer = [*way, (far[0], far[1], line.get("egress", 0))]
+                if line["do"] == "extend":
+                    beacons.append(longer)
+                    continue
+                kind = kinds.get((near, far)) or kinds[far, near]
+                entries = [
+                    {"ia": ia, "ingress": way_in, "egress": way_out, "mac": "0" * 12,
+                     "exp": self.topology.ases[ia]["exp"]} for ia, way_in, way_out in longer
+                ]
+                yield {"kind": "core" if kind == "core" else "intra", "entries": entries,
+                       "timestamp": NOW, "beta0": 0}
+
+    def searched(self, pairs):
+        """How many answers to requests were compared with a search, and which have other walks."""
+        segments, wrong = [*self.segments()], []
+        for pair, walks in zip(pairs, self.asked(pairs, ANSWER, {})):
+            found = {networks.written_walk(it) for it in walks}
+            wanted = {it for _, it, _ in answers.answer(segments, *pair, None)}
+            if found != wanted and (len(walks) < ANSWER or not found < wanted):
+                wrong.append(f"{pair}: {len(found)} walks, and not the {len(wanted)} of a search")
+        return len(pairs), wrong
 
     def until(self, walk):
         """The last second at which all hops of a walk are live."""
@@ -127,6 +163,7 @@ def tried(seed, number):
     names = network.topology.names
     pairs = list(itertools.permutations(names, 2))
     rows = [compared(network, pairs, ANSWER, {}, [])]
+    rows.append(network.searched(rng.sample(pairs, min(SEARCHED, len(pairs)))))
     some = rng.randint(1, 3)
     rows.append(compared(network, pairs, some, {}, ["--limit", str(some)]))
     walks = [walk for answer in network.asked(pairs, ANSWER, {}) for walk in answer]

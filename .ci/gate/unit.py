@@ -1,5 +1,5 @@
-"""The tests of the gate's own scripts, in `.ci/tests`: each damages a copy of a page, of a case or of
-what a program prints, and sees that it is told. Where mypy is there, it checks the scripts' types."""
+"""The tests of the gate's own scripts, in `.ci/tests`: each damages a copy of a page, of a case or
+of what a program prints, and sees that it is told. Where mypy is there, it checks their types."""
 import os
 import sys
 import unittest
