@@ -1,0 +1,191 @@
+"""Checks that the header and the packages of bindings/ fit what the libraries export.
+
+First it compares their numbers with the tables of the crates (`host_numbers.py`). Then it builds
+the static libraries over what `rt ci` has proved, since that leaves none, and runs the tours: in C
+by each compiler that is there (the kit's clang is), in C++, in Python, as a package too, in Rust
+and in JavaScript. Their answers are held to what the rules of routers and of paths say.
+`answers.py` compares random requests for paths with a search that tries every list of pieces, and
+`packets.py` whole packets with a second reader of them. The commands by which bindings/README.md
+links are run as they stand.
+
+What is not on the machine is told, and left out; but without a compiler for C nothing would be
+tested, so that the status is 1 then, unless the word is `--without-compiler`. It is 1 too where an
+answer differs."""
+import os
+import re
+import shutil
+import sys
+import tempfile
+from collections.abc import Sequence
+
+from gate import TOP, children, host_numbers
+from gate.hosts import build
+from gate.machine import Machine
+from gate.words import reader
+
+BINDINGS = str(TOP / "bindings")
+GATE = [sys.executable, ".ci/gate"]
+
+# The seconds of one command.
+SECONDS = 300
+
+# A tour has to be well formed by the standard, whichever compiler reads it.
+STRICT = ("-O2", "-Wall", "-Wextra", "-Wpedantic", "-Werror")
+CXX = "c++"
+NODE = ["node", "--experimental-wasm-memory64"]
+
+# Turns of routers on whole packets.
+PACKETS = "cases/packets/turns.tsv"
+
+# The page for hosts. A block of its commands is run, with what has to be on the machine for it.
+PAGE = "bindings/README.md"
+BLOCK = re.compile(r"^<!-- run: ([^\n]*) -->\n```\n(.*?)^```$", re.M | re.S)
+CHILD = re.compile(r"^## A whole network$.*?^```\n(import .*?)^```$", re.M | re.S)
+
+
+class Gate:
+    """What was run so far, and whether all of it ended well."""
+
+    def __init__(self, room, machine):
+        self.room, self.is_well, self.count, self.machine = room, True, 0, machine
+
+    def run(self, what, words, given=b"", **how):
+        """Runs a command, whose last line is told, and all of them if its status is not 0."""
+        done = children.run(words, given, SECONDS, is_merged=True, **how)
+        lines = done.stdout.decode(errors="replace").strip().splitlines()
+        self.count += 1
+        for line in lines if done.returncode else lines[-1:]:
+            print(f"bindings: {what}: {line}", flush=True)
+        self.is_well = self.is_well and done.returncode == 0
+        return done.returncode == 0
+
+    def path(self, name):
+        return os.path.join(self.room, name)
+
+    def tour_in_c(self, number, compiler):
+        """The tours by one compiler for C: in C, and in Python over the shared object."""
+        name = f"{os.path.basename(compiler[0][0])}-{number}"
+        program, shared = self.path(f"tour-by-{name}"), self.path(f"libscion-{name}.so")
+        source = os.path.join(BINDINGS, "c", "tour.c")
+        build.link_program(compiler, build.BOTH, source, program, ("-std=c11", *STRICT))
+        build.link_shared(compiler, build.BOTH, shared)
+        python = [sys.executable, "-B"]
+        self.run(f"tour by {name}", [program])
+        tour = os.path.join(BINDINGS, "python", "tour.py")
+        self.run(f"Python over {name}", [*python, tour, shared])
+        self.run(f"answers over {name}", [*GATE, "answers", shared])
+        self.packets_in_c(name, compiler)
+        self.run(f"whole packets in Python over {name}", [*GATE, "packets", shared])
+        self.routers(name, compiler)
+
+    def packets_in_c(self, name, compiler):
+        """Whole packets by one compiler for C."""
+        program = self.path(f"packets-by-{name}")
+        source = os.path.join(BINDINGS, "c", "packets.c")
+        build.link_program(compiler, build.ROUTER, source, program, ("-std=c11", *STRICT))
+        with open(PACKETS, "rb") as it:
+            self.run(f"whole packets by {name}", [program], stdin=it)
+
+    def routers(self, name, compiler):
+        """The routers of a network as processes: examples/udp, which ends well if a packet crosses
+        them and a changed one is refused."""
+        program = self.path(f"router-by-{name}")
+        source = os.path.join("examples", "udp", "router.c")
+        build.link_program(compiler, build.ROUTER, source, program, ("-std=gnu11", *STRICT))
+        words = [sys.executable, "-B", os.path.join("examples", "udp", "network.py"), program]
+        self.run(f"routers by {name}", words, (TOP / "examples/pair.txt").read_bytes())
+        for network in ("row", "pair"):
+            given = (TOP / "examples" / f"{network}.txt").read_bytes()
+            self.run(f"200 packets over {network} by {name}", [*GATE, "udp", program], given)
+
+    def tour_in_cxx(self):
+        if self.machine.has(CXX):
+            program, source = self.path("tour-by-c++"), os.path.join(BINDINGS, "c", "tour.c")
+            words = [CXX, "-std=c++17", *STRICT, "-Iinclude", "-x", "c++", source, "-x", "none"]
+            parts = [*map(build.archive, build.BOTH), build.allocator()]
+            if self.run("c++", [*words, *parts, "-o", program]):
+                self.run("tour by c++", [program])
+
+    def package_in_python(self):
+        """The tour over the package, as pip installs it into an environment of its own."""
+        if not self.machine.has_modules("venv", "ensurepip"):
+            return
+        folder = self.path("venv")
+        python = os.path.join(folder, "bin", "python")
+        install = [python, "-m", "pip", "install", "-q", "--no-index", "./bindings/python"]
+        if self.run("venv", [sys.executable, "-m", "venv", folder]) and self.run("pip", install):
+            tour = shutil.copy(os.path.join(BINDINGS, "python", "tour.py"), folder)
+            self.run("Python's package", [python, "-B", tour])
+
+    def crate_in_rust(self):
+        if self.machine.has("cargo"):
+            words = ["cargo", "test", "--offline", "--locked", "-q", "--features", "paths"]
+            how = {"cwd": os.path.join(BINDINGS, "rust")}
+            how["env"] = {**os.environ, "CARGO_TARGET_DIR": self.path("target")}
+            self.run("cargo", words, **how)
+
+    def module_in_javascript(self):
+        if self.machine.has("node"):
+            module = os.path.join(build.OUT, "scion.wasm")
+            build.build_wasm(module)
+            tour, packets = (os.path.join(BINDINGS, "js", it) for it in ("tour.mjs", "packets.mjs"))
+            self.run("node", [*NODE, tour, module])
+            self.run("whole packets by node", [*NODE, packets, module, PACKETS])
+
+    def documented(self):
+        """The commands of the page that link, and its program that runs a network."""
+        with open(PAGE, encoding="utf-8") as it:
+            text = it.read()
+        blocks = BLOCK.findall(text)
+        if not blocks or not CHILD.search(text):
+            sys.exit(f"bindings: {PAGE} has no commands that could be run")
+        for tools, script in blocks:
+            if self.machine.has(*tools.split()):
+                self.run(PAGE, ["sh", "-e", "-c", script])
+        if os.path.exists("crates/scionet/out/scionet"):
+            self.child(CHILD.search(text)[1])
+        else:
+            print("bindings: scionet is not built, and the program that runs it is left out")
+
+    def child(self, program):
+        """The program prints what `scionet run` does, also if the last line has no end."""
+        path = self.path("events.txt")
+        with open("examples/row.txt", "rb") as it, open(path, "wb") as copy:
+            copy.write(it.read().rstrip(b"\n"))
+        with open(path, "rb") as it:
+            words = ["crates/scionet/out/scionet", "run"]
+            wanted = children.output(words, it.read())
+        script = program.replace("examples/row.txt", path)
+        given = children.run([sys.executable, "-c", script])
+        is_same = given.stdout == wanted
+        print(f"bindings: the child of {PAGE}: {'same' if is_same else 'other'} replies")
+        self.is_well = self.is_well and is_same
+
+
+def main(words: Sequence[str]) -> int:
+    words_of, machine = reader(__name__, __doc__), Machine()
+    words_of.add_argument("--without-compiler", action="store_true",
+                          help="prove the libraries, though nothing can be linked with them")
+    given = words_of.parse_args(words)
+    is_well = host_numbers.check()
+    build.prove(build.BOTH)
+    compilers = list(build.compilers())
+    if not compilers:
+        machine.has_all(["a compiler for C"])
+        print(machine.told("bindings: no tour was run"))
+        return 0 if is_well and given.without_compiler else 1
+    os.makedirs(build.OUT, exist_ok=True)
+    build.gather(build.BOTH)
+    build.link_shared(compilers[0], build.BOTH, os.path.join(build.OUT, "libscion.so"))
+    with tempfile.TemporaryDirectory() as room:
+        gate = Gate(room, machine)
+        for number, compiler in enumerate(compilers):
+            gate.tour_in_c(number, compiler)
+        gate.tour_in_cxx()
+        gate.documented()
+        gate.package_in_python()
+        gate.crate_in_rust()
+        gate.module_in_javascript()
+        is_well = gate.is_well and is_well
+    print(machine.told(f"bindings: {gate.count} commands, all well: {is_well}"))
+    return 0 if is_well else 1

@@ -1,0 +1,124 @@
+"""Prints what README.md has of the crates: their picture, drawn from crates.txt, and the list of
+their pages by layer, with the titles of these. In the picture an arrow that follows from two others
+is left out, and so are the crates of tests.
+
+The status is 1 too where a crate has no page or is in no layer, or where a piece of code that a
+page shows as taken from a file is not in that file."""
+import re
+import sys
+import textwrap
+from collections.abc import Sequence
+from pathlib import Path
+
+from gate.pages import filled, settle
+
+TITLE = re.compile(r"# `(\w+)`: (.*)\n")
+TAKEN = re.compile(r"^From \[`(.*?)`\].*:\n\n```\w+\n(.*?)```$", re.M | re.S)
+CODE = re.compile(r"^```(?!sh|text)\w", re.M)
+TESTS = re.compile(r"conformance_|worked$|refusing$")
+
+# Where README.md has the picture, and the list.
+PICTURE = re.compile(r"^```mermaid\n.*?^```\n", re.M | re.S)
+LIST = re.compile(r"^Texts, streams and lists:\n.*?^For tests:.*?\.\n", re.M | re.S)
+
+LAYERS = {
+    "Texts, streams and lists": "refusal json_fields streams separators doubles inbox",
+    "Values of SCION": "isd_as hop_mac path_header scion_topology path_segment policy_expr",
+    "Segments and paths": "beaconing path_server segment_board path_verifier combinator"
+    " daemon_cache",
+    "Packets and networks": "router_step scion_packet forwarding network_core whole_packets"
+    " router_workers",
+    "Examples of the theorem": "arrivals row_history row_lines",
+    "Texts in and out": "event_lines work_lines beacon_lines step_line packet_view network_view"
+    " path_report line_faults commands",
+    "Programs, and libraries for other languages": "scionet scionet_view tour bench scion_ffi"
+    " scion_ffi_paths",
+    "For tests": "refusing worked conformance_values conformance_network conformance_paths"
+    " conformance_refused conformance_run conformance_step conformance_threads"
+    " conformance_workers",
+}
+
+
+def graph():
+    """The libraries of the repository on which each of its crates stands, by the crate's name."""
+    lines = [line.partition("#")[0] for line in Path("crates.txt").read_text().splitlines()]
+    pairs = [line.partition(":") for line in lines if line.strip()]
+    named = {name.split()[0]: below.split() for name, _, below in pairs}
+    return {name: [it for it in below if it in named] for name, below in named.items()}
+
+
+def reached(crates, name):
+    """All crates on which this one stands, by way of others too."""
+    return {it for below in crates[name] for it in {below} | reached(crates, below)}
+
+
+def picture(crates):
+    """The picture as Mermaid draws it, without the crates of tests."""
+    yield "```mermaid\ngraph TD"
+    for name in (it for it in crates if not TESTS.match(it)):
+        near = [it for it in crates[name] if not TESTS.match(it)]
+        for it in near:
+            if not any(it in reached(crates, other) for other in near):
+                yield f"  {name} --> {it}"
+    yield "```"
+
+
+def page(name):
+    """The text of a crate's page."""
+    path = Path("crates", name, "README.md")
+    if not path.exists() or not (found := TITLE.match(path.read_text())) or found[1] != name:
+        sys.exit(f"{path} does not begin with '# `{name}`: ' and a title")
+    return path.read_text()
+
+
+def pages():
+    """The list of the crates' pages, by layer."""
+    for layer, names in LAYERS.items():
+        titles = {name: TITLE.match(page(name))[2] for name in names.split()}
+        links = {name: f"[`{name}`](crates/{name}/README.md)" for name in titles}
+        if layer.endswith("tests"):
+            yield filled(f"{layer}: {', '.join(links.values())}.") + "\n"
+            continue
+        yield f"{layer}:\n"
+        yield from (f"- {links[name]}: {title}" for name, title in titles.items())
+        yield ""
+
+
+def is_taken(path, code):
+    """Whether these lines stand in a file, one after the other, however far they are indented."""
+    lines = Path(path).read_text().split("\n") if Path(path).exists() else []
+    wanted = code.rstrip("\n").split("\n")
+    windows = (lines[at : at + len(wanted)] for at in range(len(lines)))
+    return any(textwrap.dedent("\n".join(it)).split("\n") == wanted for it in windows)
+
+
+def judge(crates):
+    """Stops where a crate has no page or is in no layer, or a page shows code that is nowhere."""
+    listed = " ".join(LAYERS.values()).split()
+    if sorted(listed) != sorted(crates):
+        differ = {*listed} ^ {*crates}
+        sys.exit(f"crates.txt and the layers of .ci/gate/crates.py differ: {differ}")
+    for name in crates:
+        taken = TAKEN.findall(page(name))
+        if len(taken) != len(CODE.findall(page(name))):
+            sys.exit(f"crates/{name}/README.md shows code, and not from which file")
+        for path, code in taken:
+            if not is_taken(path, code):
+                sys.exit(f"crates/{name}/README.md shows code that {path} does not have")
+
+
+def document():
+    """README.md with the picture and the list."""
+    crates = graph()
+    judge(crates)
+    readme = Path("README.md").read_text(encoding="utf-8")
+    texts = "\n".join(picture(crates)) + "\n", "\n".join(pages())
+    for pattern, text in zip((PICTURE, LIST), texts):
+        if len(pattern.findall(readme)) != 1:
+            sys.exit("README.md has no picture or no list of the crates to be replaced")
+        readme = pattern.sub(lambda _, text=text: text, readme)
+    return readme
+
+
+def main(words: Sequence[str]) -> int:
+    return settle(__name__, __doc__, words, lambda: {"README.md": document()})

@@ -1,0 +1,123 @@
+"""Runs `scionet_view explain` over faulty inputs, and over the networks of the examples and cases.
+
+`cases/explain/faults.jsonl` has the faulty inputs, and the beginnings of the lines that have to be
+printed of each. Of the examples nothing may be said. Of each network of `cases/*.jsonl` exactly the
+lines are explained that `scionet run` refuses, each with its reply. The last line has the numbers
+of faults and of lines that were compared, and of those that were wrong; the status is 1 where one
+was, or where nothing was compared.
+"""
+import concurrent.futures
+import copy
+import json
+import os
+import re
+import sys
+from collections.abc import Sequence
+
+from gate import TOP, children
+from gate.words import reader
+
+SAID = re.compile(rb"line (\d+): (warning: |(?:topology )?no \d+ \w+: )")
+
+
+def program(name):
+    path = TOP / "crates" / name / "out" / name
+    if not os.access(path, os.X_OK):
+        sys.exit(f"explain: {path} is not there: rt ci builds it")
+    return str(path)
+
+
+def explained(text):
+    """The lines that `explain` prints of this input; `None` if it ends with a fault."""
+    run = children.run([program("scionet_view"), "explain"], text)
+    return None if run.returncode else run.stdout.split(b"\n")[:-1]
+
+
+def changed(topology, case):
+    """The topology of a case: another one, or this one with one value changed or taken out."""
+    if "topology" in case:
+        return case["topology"]
+    topology = copy.deepcopy(topology)
+    *path, last = case["at"]
+    part = topology
+    for step in path:
+        part = part[step]
+    if "is" in case:
+        part[last] = case["is"]
+    else:
+        del part[last]
+    return topology
+
+
+def lines_of(case, row):
+    """The lines of a case, over those of the first example."""
+    if "lines" not in case:
+        return [changed(json.loads(row[0]), case)]
+    return row[: case.get("after", 0)] + case["lines"]
+
+
+def input_of(case, row):
+    """The bytes of a case: each line is a text, or a value that is written as one."""
+    lines = (it if isinstance(it, str) else json.dumps(it) for it in lines_of(case, row))
+    return "".join(f"{line}\n" for line in lines).encode()
+
+
+def fault_difference(case, row):
+    """What is wrong with the explanation of a faulty input, or nothing."""
+    said = [line.decode() for line in explained(input_of(case, row)) or []]
+    if len(said) == len(case["said"]) and all(map(str.startswith, said, case["said"])):
+        return None
+    return f"{case['name']}: {said}, not {case['said']}"
+
+
+def network_difference(name, text):
+    """What is wrong with the explanations of a network's lines, or nothing, and how many replies
+    were compared."""
+    run = children.run([program("scionet"), "run"], text)
+    replies = run.stdout.split(b"\n")[:-1]
+    said = explained(text)
+    if said is None:
+        is_right = run.stderr not in (b"", b"scionet: topology refused\n")
+        return None if is_right else f"{name}: a fault", 0
+    begun = [SAID.match(line) for line in said]
+    if not all(begun):
+        return f"{name}: {said[begun.index(None)]}", len(replies)
+    found = [(int(it[1]), it[2]) for it in begun if it[2] != b"warning: "]
+    wanted = [
+        (number, reply + b": ")
+        for number, reply in enumerate(replies, 1)
+        if reply.startswith((b"no ", b"topology no "))
+    ]
+    return None if found == wanted else f"{name}: {found}, not {wanted}", len(replies)
+
+
+def examples():
+    for name in ["fork", "pair", "row"]:
+        yield name, (TOP / f"examples/{name}.txt").read_bytes()
+
+
+def networks():
+    for file in sorted((TOP / "cases").glob("*.jsonl")):
+        for line in file.read_text(encoding="utf-8").splitlines():
+            case = json.loads(line)
+            if case["args"][:1] == ["run"] and len(case["args"]) == 1:
+                given = case.get("stdin", "").encode() or bytes.fromhex(case.get("stdin_hex", ""))
+                yield f"{file.stem}: {case['name']}", given
+
+
+def main(words: Sequence[str]) -> int:
+    reader(__name__, __doc__).parse_args(words)
+    row = (TOP / "examples/row.txt").read_text(encoding="utf-8").splitlines()
+    table = (TOP / "cases/explain/faults.jsonl").read_text(encoding="utf-8").splitlines()
+    faults = [json.loads(line) for line in table]
+    wrong = [f"{name}: {said}" for name, text in examples() if (said := explained(text)) != []]
+    with concurrent.futures.ThreadPoolExecutor(os.cpu_count()) as pool:
+        wrong += filter(None, pool.map(lambda it: fault_difference(it, row), faults))
+        told = [*pool.map(lambda it: network_difference(*it), [*examples(), *networks()])]
+    wrong += [difference for difference, _ in told if difference]
+    lines = sum(count for _, count in told)
+    for it in wrong[:20]:
+        print(f"explain: {it}")
+    print(f"explain: {len(faults)} faults, {lines} lines, {len(wrong)} wrong")
+    return 1 if wrong or not faults or not lines else 0
+

@@ -1,0 +1,154 @@
+"""Writes two tables of docs/lines.md: the members of an AS, by the comments in `line_faults`, and
+the refusals of each event in their order, by the definition of a step of `network_core` and those
+that it cites."""
+import itertools
+import re
+import sys
+from collections.abc import Sequence
+from pathlib import Path
+
+from gate.fault_tables import TYPES, numbers_of
+from gate.pages import settle
+from gate.specs import Definition, Specs
+
+PAGE = Path("docs/lines.md")
+MEMBERS = Path("crates/line_faults/src/member.rt")
+FAULTS = Path("crates/network_core/src/fault.rt")
+EVENT_FAULT = "EventFault"
+
+# A definition that tells two cases, and the refusal of the second, which comes before the first.
+FIRST_OF_CASES = {"Sends": "faults.Path"}
+
+CRATES = {one[0]: crate for crate, types in TYPES.items() for one in types}
+
+
+def members():
+    """The rows of an AS's members: each name with the comment above it."""
+    table = re.search(r"static AS: \[Member; (\d+)\] = \[\n(.*?)\n\];", MEMBERS.read_text(), re.S)
+    found = re.findall(r'((?:    // .*\n)+)    Member\("(\w+)"', table[2])
+    if len(found) != int(table[1]):
+        sys.exit(f"{MEMBERS} has a member of an AS without a comment")
+    for comment, name in found:
+        yield f"| `{name}` | {re.sub(r' *// *', ' ', comment).replace(chr(10), '').strip()} |"
+
+
+def equations_of(one, *patterns):
+    """The definition without those equations that are for another case than these."""
+    kept, is_own = [one.lines[0]], True
+    for line in one.lines[1:]:
+        if line.startswith(f"{one.key[2]} "):
+            is_own = any(re.search(rf"[ (]{it}\b", line.partition("=")[0]) for it in patterns)
+        if is_own:
+            kept.append(line)
+    own = Definition(one.key, one.names)
+    own.lines = kept
+    return own
+
+
+class Refusals:
+    """What the definition of a step, and those that it cites, refuse."""
+
+    def __init__(self):
+        self.specs = Specs(Path())
+        self.passed = dict(re.findall(r"^    (\w+)\((\w+)\),$", FAULTS.read_text(), re.M))
+        types = [EVENT_FAULT, *self.passed.values()]
+        self.numbers = {it: numbers_of(CRATES[it], it) for it in types}
+
+    def words_of(self, one):
+        """The words of a definition in the order in which they refuse: what stands in an argument
+        of `Step` does so before that to which it is given."""
+        words, first = self.specs.words(one), FIRST_OF_CASES.get(one.key[2])
+        if one.key[2] == "Step":
+            return words[::-1]
+        return sorted(words, key=lambda it: it != first)
+
+    def below(self, one, fault):
+        """The type of the refusals of a definition that another with this type passes on."""
+        if one.key[:2] == ("network_core", "Step"):
+            return EVENT_FAULT
+        found = re.search(r"Result .* (\w+)$", one.lines[0])
+        wanted = self.passed.values() if fault == EVENT_FAULT else [fault]
+        return found[1] if found and found[1] in wanted else None
+
+    def of(self, one, fault, route):
+        """The refusals of a definition in their order: the type, and the variant if it is known."""
+        for word in self.words_of(equations_of(one, route) if one.key[2] == "way_by" else one):
+            if made := self.specs.constructor(one, word):
+                if made[0] == fault:
+                    is_passed = fault == EVENT_FAULT and made[1] in self.passed
+                    yield (self.passed[made[1]], None) if is_passed else made
+                continue
+            it = self.specs.meaning(one.names, word)
+            if it is not None and it.key != one.key:
+                if below := self.below(it, fault):
+                    yield from self.of(it, below, route)
+
+    def passed_by(self, event, route):
+        """The refusals of an event in their order."""
+        step = equations_of(self.specs.named("network_core/Step.Step"), event)
+        return [*self.of(step, EVENT_FAULT, route)]
+
+    def of_event(self, event, route):
+        """The same as text, with a refusal's number and name, or a type of which all may come."""
+        found, told = self.passed_by(event, route), []
+        for kind, variant in found:
+            if variant:
+                told.append("{} {}".format(*self.numbers[kind][variant]))
+            elif not any(it[0] == kind and it[1] for it in found):
+                told.append(f"those of [`{kind}`](refusals.md#{CRATES[kind]}-{kind.lower()})")
+        return ", ".join(it for it, _ in itertools.groupby(told))
+
+
+def readings(specs):
+    """The words of lines, each with the definition that reads its members."""
+    for name in "event_in", "plain_event", "traffic_event":
+        text = specs.named(f"event_lines/Line.{name}").said
+        for part in text.split('bytes_eq word (codes "')[1:]:
+            word, _, body = part.partition('"')
+            called = re.search(r"then (\w+_in) d", body)
+            yield word, specs.named(f"event_lines/Line.{called[1]}").said if called else body
+
+
+def events(specs):
+    """The words of lines by the event and the route that they mean, in the order of events."""
+    words = {}
+    for word, body in readings(specs):
+        made = re.search(r"Some \(?(\w+)(?: \((\w+))?", body)
+        words[made[1], made[2]] = word
+    order = specs.named("network_core/Event.EventValue").variants
+    return sorted(words.items(), key=lambda it: order.index(it[0][0]))
+
+
+def words_by_type():
+    """The words of the events that are refused with faults of each type."""
+    found, words = Refusals(), {}
+    for (event, route), word in events(found.specs):
+        for kind in {it for it, _ in found.passed_by(event, route)}:
+            words.setdefault(kind, []).append(word)
+    return words
+
+
+def refusals():
+    """The rows of events' refusals; events that have the same share a row."""
+    found, rows = Refusals(), {}
+    for (event, route), word in events(found.specs):
+        if told := found.of_event(event, route):
+            rows.setdefault(told, []).append(f"`{word}`")
+    for told, words in rows.items():
+        yield f"| {', '.join(words)} | {told} |"
+
+
+def written(text):
+    """The page with its tables."""
+    tables = {"| member of an AS | value |": members(), "| `do` | refusals |": refusals()}
+    for head, rows in tables.items():
+        table = re.compile(rf"(?<={re.escape(head)}\n\|---\|---\|\n)(?:\|.*\n)+")
+        if not table.search(text):
+            sys.exit(f"{PAGE} has no table with the head {head}")
+        text = table.sub(lambda _, rows=rows: "".join(f"{it}\n" for it in rows), text)
+    return text
+
+
+def main(words: Sequence[str]) -> int:
+    made = lambda: {str(PAGE): written(PAGE.read_text(encoding="utf-8"))}
+    return settle(__name__, __doc__, words, made)

@@ -1,0 +1,1 @@
+"""Tests of the gate's checks: `python3 .ci/gate unit` runs them."""

@@ -1,0 +1,103 @@
+"""What the checks over built programs say of answers that are damaged."""
+import subprocess
+import unittest
+from pathlib import Path
+from unittest import mock
+
+from gate import TOP, explain, theorem
+from gate.networks import Hop
+from gate.pictures import fault_of, topology
+from gate.playground_server import Checks
+
+FAULT = {"name": "a key", "at": ["ases", 0, "key"], "is": "6x", "said": ["line 1: topology no 11"]}
+ROW = (TOP / "examples/row.txt").read_text(encoding="utf-8").splitlines()
+REFUSED = b"topology ok\nno 140 BadLine\n"
+
+
+class Explain(unittest.TestCase):
+    def test_faults(self) -> None:
+        for said, is_right in (
+            ([b"line 1: topology no 11 BadField: ases[0].key: found"], True),
+            ([b"line 1: topology no 12 DuplicateAs"], False),
+            ([], False),
+            ([b"line 1: topology no 11 BadField", b"line 2: warning: "], False),
+            (None, False),
+        ):
+            with mock.patch.object(explain, "explained", lambda _, said=said: said):
+                self.assertEqual(explain.fault_difference(FAULT, ROW) is None, is_right, said)
+
+    def compared(self, said: list[bytes]) -> bool:
+        """Whether it is right to say this of a network whose second line is refused."""
+        done = subprocess.CompletedProcess([], 0, REFUSED, b"")
+        with (
+            mock.patch.object(explain.children, "run", lambda *_: done),
+            mock.patch.object(explain, "program", str),
+            mock.patch.object(explain, "explained", lambda _: said),
+        ):
+            fault, count = explain.network_difference("a network", b"")
+        self.assertEqual(count, 2)
+        return fault is None
+
+    def test_networks(self) -> None:
+        self.assertTrue(self.compared([b"line 2: no 140 BadLine: the line: found no text"]))
+        self.assertTrue(self.compared([b"line 1: warning: mtu", b"line 2: no 140 BadLine: x"]))
+        self.assertFalse(self.compared([]))
+        for line in (b"line 1: no 140 BadLine: x", b"line 2: no 41 NoInterface: x", b"x"):
+            self.assertFalse(self.compared([line]), line)
+
+
+class Theorem(unittest.TestCase):
+    def setUp(self) -> None:
+        self.network = theorem.Network("1 None 0", None)
+        (one, number), (other, entered) = next(iter(self.network.topology.far.items()))
+        self.between = [one, other]
+        self.reply = f"ask 0 1; {one}#0,{number} {other}#{entered},0"
+
+    def is_right(self, reply: str, least: int) -> bool:
+        return bool(self.network.has_answer(0, self.between, [], least, reply))
+
+    def test_answers(self) -> None:
+        self.assertTrue(self.is_right(self.reply, 1))
+        self.assertTrue(self.is_right("ask 0 0", 0))
+        self.assertFalse(self.is_right("ask 0 0", 1))
+        for first in ("ask 1 1", "ask 0 2"):
+            self.assertFalse(self.is_right(self.reply.replace("ask 0 1", first), 0), first)
+        self.assertFalse(self.is_right(self.reply.replace(self.between[0], self.between[1]), 0))
+
+    def test_known_paths(self) -> None:
+        """A request without a policy has a path where one is known or a segment joins the ends."""
+        walk = [Hop(self.between[0], 0, 1), Hop(self.between[1], 2, 0)]
+        self.assertFalse(self.network.has_path(self.between, [], []))
+        self.assertTrue(self.network.has_path(self.between, [walk], []))
+        self.network.joined.add(frozenset(self.between))
+        self.assertTrue(self.network.has_path(self.between, [], []))
+
+
+class Pictures(unittest.TestCase):
+    def setUp(self) -> None:
+        self.picture = Path("docs/forty.svg").read_text(encoding="utf-8")
+        self.description = Path("docs/forty.dot").read_text(encoding="utf-8")
+
+    def test_a_whole_one(self) -> None:
+        self.assertEqual(fault_of(self.picture, self.description), "")
+
+    def test_what_is_lost(self) -> None:
+        lines = self.description.splitlines(True)
+        link = next(line for line in lines if " -- " in line)
+        node = next(line for line in lines if "3-ff00:0:3a4" in line)
+        for it in (link, node):
+            self.assertIn("too much", fault_of(self.picture, self.description.replace(it, "", 1)))
+        changed = self.picture.replace("<title>1&#45;ff00:0:181</title>", "<title>1</title>")
+        self.assertNotEqual(fault_of(changed, self.description), "")
+
+    def test_a_topology(self) -> None:
+        self.assertEqual(topology(self.description).count('"ia"'), 40 + 2 * 65)
+
+
+class Playground(unittest.TestCase):
+    def test_checks(self) -> None:
+        checks = Checks()
+        with mock.patch("builtins.print") as told:
+            checks.same("a", 1, 1)
+            checks.same("b", 1, 2)
+        self.assertEqual((checks.count, checks.wrong, told.call_count), (2, 1, 1))

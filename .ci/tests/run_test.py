@@ -1,0 +1,126 @@
+"""What the gate as a whole says of steps that fail, skip something or take too long; and how
+programs are started."""
+import contextlib
+import io
+import sys
+import unittest
+from collections.abc import Sequence
+from pathlib import Path
+from unittest import mock
+
+from gate import children, run
+from gate.__main__ import checks
+from gate.machine import Machine, skipped
+from gate.run import STEPS, Step, run_all
+
+
+class Python(Step):
+    """A step that runs a line of Python."""
+
+    @property
+    def command(self) -> list[str]:
+        return [sys.executable, "-c", self.check]
+
+
+def ended(steps: Sequence[Step], is_strict: bool = False) -> tuple[str, int]:
+    """How these steps end; what they print is not shown."""
+    with contextlib.redirect_stdout(io.StringIO()):
+        return run_all(steps, is_strict)
+
+
+WELL, NODE = Python("print('a: 3 wrong of 3')"), Python("print('b: 1; skipped: node, zsh')")
+
+
+class Runs(unittest.TestCase):
+    def test_all_well(self) -> None:
+        self.assertEqual(ended([WELL, WELL]), ("gate: 2 steps, 0 failed", 0))
+
+    def test_what_is_skipped(self) -> None:
+        line = "gate: 3 steps, 0 failed; skipped: node, zsh"
+        self.assertEqual(ended([WELL, NODE, WELL]), (line, 0))
+
+    def test_strict(self) -> None:
+        line, status = ended([WELL, NODE, WELL], is_strict=True)
+        self.assertEqual(status, 1)
+        self.assertIn("step 2 of 3", line)
+        self.assertTrue(line.endswith("node, zsh skipped"), line)
+
+    def test_the_first_fault(self) -> None:
+        steps = [WELL, Python("import sys; sys.exit(3)"), Python("print('not run')")]
+        line, status = ended(steps)
+        self.assertEqual(status, 1)
+        self.assertRegex(line, "^gate: step 2 of 3, .*: status 3$")
+
+    def test_no_end(self) -> None:
+        with mock.patch.object(run, "MINUTE", 0.1):
+            line, status = ended([Python("import time; time.sleep(60)", minutes=1)])
+        self.assertEqual(status, 1)
+        self.assertIn("no end within 0.1 seconds, and killed", line)
+
+    def test_steps(self) -> None:
+        """Each step is a check, or `rt`; and no check is left out but those that others start."""
+        named = {it.check for it in STEPS}
+        self.assertEqual(named - {"rt"} - {*checks()}, set())
+        others = {"answers", "calls_growth", "host_numbers", "run", "udp"}
+        self.assertEqual({*checks()} - named, others)
+
+    def test_words_of_steps(self) -> None:
+        """Steps of pages compare; the gate writes nothing."""
+        for it in STEPS:
+            self.assertIn(it.words, ((), ("--check",), ("ci",)), it.name)
+
+    def test_the_script(self) -> None:
+        done = children.run([".ci/run", "--strickt"])
+        self.assertEqual(done.returncode, 2)
+        self.assertIn(b"unknown word --strickt", done.stderr)
+
+    def test_an_unknown_check(self) -> None:
+        done = children.run([sys.executable, ".ci/gate", "boook", "--check"])
+        self.assertEqual(done.returncode, 2)
+        self.assertIn(b"boook", done.stderr)
+
+
+class Children(unittest.TestCase):
+    def test_output(self) -> None:
+        self.assertEqual(children.output(["cat"], b"a\n"), b"a\n")
+
+    def test_a_status(self) -> None:
+        with self.assertRaisesRegex(children.ChildFault, "status 3 of sh -c .*: why"):
+            children.output(["sh", "-c", "echo why >&2; exit 3"])
+
+    def test_no_end(self) -> None:
+        """Also what the program has started is killed."""
+        with self.assertRaisesRegex(children.ChildFault, "no end within 0.2 seconds.*: sh -c"):
+            children.run(["sh", "-c", "sleep 60 & sleep 60"], seconds=0.2)
+
+
+class Machines(unittest.TestCase):
+    def test_what_is_missing(self) -> None:
+        machine = Machine()
+        self.assertTrue(machine.has("sh") and machine.has_modules("json"))
+        self.assertEqual(machine.told("a: 1"), "a: 1")
+        self.assertFalse(machine.has("sh", "no-such-tool"))
+        self.assertFalse(machine.has_modules("no_such_module"))
+        line = machine.told("a: 1")
+        self.assertEqual(line, "a: 1; skipped: no-such-tool, no_such_module")
+        self.assertEqual(skipped(line), ["no-such-tool", "no_such_module"])
+        self.assertEqual(skipped("a: 1 skipped"), [])
+
+
+# Imports each of these modules of the gate as the first of them.
+ALONE = """
+import importlib, sys
+sys.path.insert(0, ".ci")
+for name in sys.argv[2:]:
+    for it in [it for it in sys.modules if it.startswith("gate")]:
+        del sys.modules[it]
+    importlib.import_module(f"gate.{name}")
+"""
+
+
+class Modules(unittest.TestCase):
+    def test_no_work_at_import(self) -> None:
+        """A module of the gate prints nothing and reads no words when it is imported, alone."""
+        names = [path.stem for path in sorted(Path(".ci/gate").glob("[a-z]*.py"))]
+        done = children.run([sys.executable, "-B", "-c", ALONE, "--no-such-word", *names])
+        self.assertEqual((done.returncode, done.stdout, done.stderr), (0, b"", b""))
