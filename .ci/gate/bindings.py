@@ -76,6 +76,7 @@ class Gate:
         self.run(f"answers over {name}", [*GATE, "answers", shared])
         self.packets_in_c(name, compiler)
         self.run(f"whole packets in Python over {name}", [*GATE, "packets", shared])
+        self.run(f"growth of calls over {name}", [*GATE, "calls_growth", shared])
         self.routers(name, compiler)
 
     def packets_in_c(self, name, compiler):

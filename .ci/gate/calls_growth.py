@@ -137,17 +137,22 @@ def verified(calls: Any, size: int) -> Call:
     return asked(calls.scion_verify, request(rows, 1, header=text, pieces=[piece]))
 
 
+# A power that grows no faster than the size, as a machine that others share measures it.
+LINEAR = 1.4
+
 CALLS = [
-    Work("scion_step", (), step, (128, 256), "", Bound(1.1, 0.5, 1), times=20_000),
-    Work("scion_step_all", (), step_all, (50_000, 100_000), "", Bound(1.1, 0.5, 1)),
-    Work("scion_header_check", (), header_check, (32, 63), "", Bound(1.1, 0.5, 1), times=100_000),
-    Work("scion_header_reverse", (), header_reverse, (32, 63), "", Bound(1.1, 0.5, 1),
+    Work("scion_step", (), step, (128, 256), "", Bound(LINEAR, 0.8, 1), times=20_000),
+    Work("scion_step_all", (), step_all, (50_000, 100_000), "", Bound(LINEAR, 0.5, 1)),
+    Work("scion_header_check", (), header_check, (32, 63), "", Bound(LINEAR, 0.5, 1),
+         times=100_000),
+    Work("scion_header_reverse", (), header_reverse, (32, 63), "", Bound(LINEAR, 0.5, 1),
          times=50_000),
-    Work("scion_hop_mac", (), hop_mac, (32, 64), "", Bound(1.1, 0.5, 1), times=40_000),
-    Work("scion_paths", (), paths, (4096, 8192), "", Bound(1.2, 0.5, 20)),
-    Work("scion_paths, one walk in many ways", (), ambiguous_paths, (6, 8), "", Bound(12, 2, 20),
-         Bound(4, 0.1, 20)),
-    Work("scion_verify", (), verified, (4096, 8192), "", Bound(1.2, 0.5, 20)),
+    Work("scion_hop_mac", (), hop_mac, (32, 64), "", Bound(LINEAR, 0.5, 1), times=40_000),
+    Work("scion_paths", (), paths, (8192, 16384), "", Bound(LINEAR, 1, 40), times=10),
+    # The segments grow with the square of this size.
+    Work("scion_paths, one walk in many ways", (), ambiguous_paths, (16, 32), "",
+         Bound(2 * LINEAR, 0.5, 20), times=40),
+    Work("scion_verify", (), verified, (8192, 16384), "", Bound(LINEAR, 1, 40), times=10),
 ]
 
 

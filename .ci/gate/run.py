@@ -71,6 +71,7 @@ STEPS = (
     Step("documents"),
     Step("pictures"),
     Step("growth"),
+    Step("requests"),
     Step("refuse"),
 )
 
