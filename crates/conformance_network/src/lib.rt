@@ -1,5 +1,5 @@
-//! Tests of networks: topologies; packets as text, field by field and check by check; pictures of
-//! networks; and the sentences of refusals.
+//! Tests of networks: topologies; packets as text, field by field and check by check; a whole
+//! packet by hand; pictures of networks; and the sentences of refusals.
 //!
 //! They are worked examples and sentences, of which no clause speaks. Tests have crates of their own
 //! and use public calls only, since a crate with tests is proved twice.
@@ -13,3 +13,5 @@ mod pictures;
 mod refusals;
 #[cfg(test)]
 mod topologies;
+#[cfg(test)]
+mod whole_packets;

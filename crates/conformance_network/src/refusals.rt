@@ -11,6 +11,7 @@ use path_verifier::VerifyFault;
 use policy_expr::{Denied, OptionFault, PolicyFault};
 use refusal::{NumberedFault, OrMemory};
 use router_step::Refusal;
+use scion_packet::{PacketFault, TurnRefusal};
 use scion_topology::TopologyFault;
 use std::alloc::AllocError;
 use std::test::Fail;
@@ -169,6 +170,41 @@ fn refusals_of_routers_have_sentences(rt: HostRuntime) -> Result<(), Fail> {
 98 UnknownEgress the AS has no interface of the way out
 99 LinkKinds the links in and out can't be joined
 100 LinkDown the link at the way out is down
+"
+    );
+    Ok(())
+}
+
+#[test]
+fn refusals_of_whole_packets_have_sentences(rt: HostRuntime) -> Result<(), Fail> {
+    let mut text = String::new(rt.alloc());
+    let refusals = [
+        PacketFault::ShortPacket,
+        PacketFault::BadVersion,
+        PacketFault::BadPathType,
+        PacketFault::BadHeader(HeaderFault::Short),
+        PacketFault::BadHeaderLength,
+        PacketFault::BadPayloadLength,
+        PacketFault::BadField,
+        PacketFault::PayloadTooLarge,
+        PacketFault::RoomTooSmall,
+    ];
+    push_refusals(&mut text, &refusals)?;
+    let packet = TurnRefusal::Packet(PacketFault::BadVersion);
+    let router = TurnRefusal::Step(Refusal::Expired);
+    writeln!(text, "{packet}; {router}")?;
+    assert_eq!(rt;
+        text.as_str(),
+        "160 ShortPacket the packet is shorter than its common header and its addresses
+161 BadVersion the version of the packet is not 0
+162 BadPathType the packet has no SCION path
+90 BadHeader the packet has no path header: the header is cut off
+163 BadHeaderLength the headers of the packet are not as long as it says
+164 BadPayloadLength the payload of the packet is not as long as it says
+11 BadField a field of the packet is out of its range
+165 PayloadTooLarge the payload is too large for a packet
+27 RoomTooSmall the packet does not fit into its room
+the version of the packet is not 0; the hop has expired
 "
     );
     Ok(())
