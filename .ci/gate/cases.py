@@ -8,7 +8,8 @@ import concurrent.futures
 import json
 import os
 import sys
-from collections.abc import Sequence
+from collections.abc import Iterable, Iterator, Sequence
+from subprocess import CompletedProcess
 from typing import Any
 
 from gate import TOP, children
@@ -19,14 +20,14 @@ SECONDS = 60  # of one run
 Case = dict[str, Any]
 
 
-def cases():
+def cases() -> Iterator[tuple[str, Case]]:
     """The cases, each with its file's name."""
     for file in sorted((TOP / "cases").glob("*.jsonl")):
         for line in file.read_text(encoding="utf-8").splitlines():
             yield file.stem, json.loads(line)
 
 
-def changed(text, at, xor):
+def changed(text: str, at: int, xor: int) -> str:
     """A packet in hexadecimal, behind an outcome or alone, with a byte changed by exclusive or."""
     outcome, blank, digits = text.rpartition(" ")
     packet = bytearray.fromhex(digits)
@@ -34,7 +35,7 @@ def changed(text, at, xor):
     return f"{outcome}{blank}{packet.hex()}"
 
 
-def with_changed_byte(case, at, xor):
+def with_changed_byte(case: Case, at: int, xor: int) -> Case:
     """The case with a byte of its packet changed, also in the answer if it has the packet."""
     answer = case["stdout"]
     if not answer.startswith("refused"):
@@ -43,7 +44,7 @@ def with_changed_byte(case, at, xor):
     return {**case, "name": name, "stdin": changed(case["stdin"], at, xor), "stdout": answer}
 
 
-def runs(case):
+def runs(case: Case) -> Iterator[Case]:
     """The runs that a case stands for: one, or one for each change that it names."""
     if "prefixes" in case:
         given = case["stdin"]
@@ -58,28 +59,28 @@ def runs(case):
         yield case
 
 
-def given(case):
+def given(case: Case) -> bytes:
     """The bytes of standard input."""
     if "stdin_hex" in case:
         return bytes.fromhex(case["stdin_hex"])
     return case["stdin"].encode()
 
 
-def difference(case, done):
+def difference(case: Case, done: CompletedProcess[bytes]) -> str | None:
     """What the run should have done and did not, or nothing."""
     if done.returncode != case["status"]:
         return f"status {done.returncode}, not {case['status']}"
     outputs = [text.encode() for text in (case["stdout"], *case.get("or", []))]
     if done.stdout not in outputs:
-        return f"output {done.stdout[-300:]}, not {outputs[0][-300:]}"
+        return f"output {done.stdout[-300:]!r}, not {outputs[0][-300:]!r}"
     if "stderr" in case and done.stderr != case["stderr"].encode():
-        return f"message {done.stderr[-300:]}, not {case['stderr']!r}"
+        return f"message {done.stderr[-300:]!r}, not {case['stderr']!r}"
     if bool(done.stderr) != bool(case["status"]):
-        return f"message {done.stderr[-300:]} with status {case['status']}"
+        return f"message {done.stderr[-300:]!r} with status {case['status']}"
     return None
 
 
-def tried(program, case):
+def tried(program: str, case: Case) -> str | None:
     """What was wrong with this run, or nothing."""
     words = [program, *case["args"]]
     try:
@@ -89,9 +90,9 @@ def tried(program, case):
     return wrong and f"{case['name']}: {wrong}"
 
 
-def first_of_each(wrong):
+def first_of_each(wrong: Iterable[tuple[str, str, str]]) -> list[str]:
     """A line for each case of which a run was wrong: what is wrong with the first."""
-    lines = {}
+    lines: dict[tuple[str, str], str] = {}
     for file, name, said in wrong:
         lines.setdefault((file, name), f"cases: {file}: {said}")
     return [*lines.values()]

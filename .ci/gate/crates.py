@@ -7,7 +7,7 @@ page shows as taken from a file is not in that file."""
 import re
 import sys
 import textwrap
-from collections.abc import Sequence
+from collections.abc import Iterator, Sequence
 from pathlib import Path
 
 from gate.pages import filled, settle
@@ -39,7 +39,7 @@ LAYERS = {
 }
 
 
-def graph():
+def graph() -> dict[str, list[str]]:
     """The libraries of the repository on which each of its crates stands, by the crate's name."""
     lines = [line.partition("#")[0] for line in Path("crates.txt").read_text().splitlines()]
     pairs = [line.partition(":") for line in lines if line.strip()]
@@ -47,12 +47,12 @@ def graph():
     return {name: [it for it in below if it in named] for name, below in named.items()}
 
 
-def reached(crates, name):
+def reached(crates: dict[str, list[str]], name: str) -> set[str]:
     """All crates on which this one stands, by way of others too."""
     return {it for below in crates[name] for it in {below} | reached(crates, below)}
 
 
-def picture(crates):
+def picture(crates: dict[str, list[str]]) -> Iterator[str]:
     """The picture as Mermaid draws it, without the crates of tests."""
     yield "```mermaid\ngraph TD"
     for name in (it for it in crates if not TESTS.match(it)):
@@ -63,7 +63,7 @@ def picture(crates):
     yield "```"
 
 
-def page(name):
+def page(name: str) -> str:
     """The text of a crate's page."""
     path = Path("crates", name, "README.md")
     if not path.exists() or not (found := TITLE.match(path.read_text())) or found[1] != name:
@@ -71,10 +71,15 @@ def page(name):
     return path.read_text()
 
 
-def pages():
+def title(name: str) -> str:
+    """The title of a crate's page, behind its name."""
+    return page(name).partition("\n")[0].partition(": ")[2]
+
+
+def pages() -> Iterator[str]:
     """The list of the crates' pages, by layer."""
     for layer, names in LAYERS.items():
-        titles = {name: TITLE.match(page(name))[2] for name in names.split()}
+        titles = {name: title(name) for name in names.split()}
         links = {name: f"[`{name}`](crates/{name}/README.md)" for name in titles}
         if layer.endswith("tests"):
             yield filled(f"{layer}: {', '.join(links.values())}.") + "\n"
@@ -84,7 +89,7 @@ def pages():
         yield ""
 
 
-def is_taken(path, code):
+def is_taken(path: str, code: str) -> bool:
     """Whether these lines stand in a file, one after the other, however far they are indented."""
     lines = Path(path).read_text().split("\n") if Path(path).exists() else []
     wanted = code.rstrip("\n").split("\n")
@@ -92,7 +97,7 @@ def is_taken(path, code):
     return any(textwrap.dedent("\n".join(it)).split("\n") == wanted for it in windows)
 
 
-def judge(crates):
+def judge(crates: dict[str, list[str]]) -> None:
     """Stops where a crate has no page or is in no layer, or a page shows code that is nowhere."""
     listed = " ".join(LAYERS.values()).split()
     if sorted(listed) != sorted(crates):
@@ -107,7 +112,7 @@ def judge(crates):
                 sys.exit(f"crates/{name}/README.md shows code that {path} does not have")
 
 
-def document():
+def document() -> str:
     """README.md with the picture and the list."""
     crates = graph()
     judge(crates)
@@ -116,7 +121,8 @@ def document():
     for pattern, text in zip((PICTURE, LIST), texts):
         if len(pattern.findall(readme)) != 1:
             sys.exit("README.md has no picture or no list of the crates to be replaced")
-        readme = pattern.sub(lambda _, text=text: text, readme)
+        [old] = pattern.findall(readme)
+        readme = readme.replace(old, text)
     return readme
 
 

@@ -14,7 +14,7 @@ that call the library for other languages are left out, and so are the diagnosti
 import re
 import sys
 import tempfile
-from collections.abc import Sequence
+from collections.abc import Iterable, Sequence
 from pathlib import Path
 
 from gate import children
@@ -34,7 +34,7 @@ SECONDS = 600
 PACKAGES = {"tools/topo.py": "yaml"}
 
 
-def blocks(name, machine):
+def blocks(name: str, machine: Machine) -> list[tuple[str, str]]:
     """The blocks of commands of a document that the machine can run, and what each prints."""
     found = BLOCK.findall(Path(name).read_text(encoding="utf-8"))
     if not found:
@@ -42,23 +42,23 @@ def blocks(name, machine):
     return [pair for pair in found if can_run(pair[0], machine)]
 
 
-def can_run(commands, machine):
+def can_run(commands: str, machine: Machine) -> bool:
     """Whether the packages that commands need are on the machine."""
     needed = [package for program, package in PACKAGES.items() if program in commands]
     return machine.has_modules(*needed)
 
 
-def printed(shell, asked, folder):
+def printed(shell: str, asked: Iterable[str], folder: Path) -> list[str]:
     """What the shell prints at each of these blocks, one after the other, begun in this folder."""
     script = "".join(f"{{ {it}}} 2>&1 < /dev/null\necho '{MARK}'\n" for it in asked)
     done = children.run([shell], script.encode(), SECONDS, cwd=folder)
     return done.stdout.decode(errors="replace").split(f"{MARK}\n")
 
 
-def compare(shell, name, machine):
+def compare(shell: str, name: str, machine: Machine) -> tuple[int, int]:
     """How many blocks a document has, and how many print something else in this shell."""
     wrong, pairs = 0, blocks(name, machine)
-    found = printed(shell, [commands for commands, _ in pairs], "crates/scionet")
+    found = printed(shell, [commands for commands, _ in pairs], Path("crates/scionet"))
     for (commands, wanted), is_so in zip(pairs, [*found, *[""] * len(pairs)]):
         if is_so != wanted:
             wrong += 1
@@ -67,7 +67,7 @@ def compare(shell, name, machine):
     return len(pairs), wrong
 
 
-def rehearse(name, machine):
+def rehearse(name: str, machine: Machine) -> int:
     """Prints the blocks of a document with what they print over unproved programs."""
     pairs = [pair for pair in blocks(name, machine) if "bindings/" not in pair[0]]
     asked = [commands for commands, _ in pairs]

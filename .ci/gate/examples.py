@@ -35,60 +35,61 @@ HELPED = re.compile(r"(?:(?<=')|(?<='\\\n))\{\\\"ases\\\":.*?\}(?=')", re.S)
 BREAK = re.compile(r'(?<=\},)(?=\{)|(?<=\},)(?="b")|(?<=\],)(?="links")')
 
 
-def topology(name):
+def topology(name: str) -> str:
     """The first line of an example."""
     return Path(f"examples/{name}.txt").read_text(encoding="utf-8").partition("\n")[0]
 
 
-def first_of_row(count):
+def first_of_row(count: int) -> str:
     """The network of the first ASes of `row`, and of the links between them."""
     row = json.loads(topology("row"))
     first = {"ases": row["ases"][:count], "links": row["links"][: count - 1]}
     return json.dumps(first, separators=(",", ":"))
 
 
-def as_function(name):
+def as_function(name: str) -> str:
     """A function's body in Rust that is this topology, broken between ASes and ends of links."""
     parts = "".join(f'        r#"{part}"#,\n' for part in BREAK.split(topology(name)))
     return f"    concat!(\n{parts}    )\n"
 
 
-def as_help(count):
+def as_help(count: int) -> str:
     """The first ASes of `row` within a text of help, broken at the same places."""
     return "\\\n".join(BREAK.split(first_of_row(count))).replace('"', '\\"')
 
 
-def example():
+def example() -> list[str]:
     """The lines of the help's example: words of `printf` in a text of Rust."""
     text = Path(EXAMPLE).read_text(encoding="utf-8").replace("\\\n", "")
     return [it.replace('\\"', '"') for it in re.findall(r"'(\{[^']*\})'", text)]
 
 
-def answers():
+def answers() -> list[str]:
     """The answers that the help of `run` gives, each with an indent there."""
     text = Path(HELP_OF_RUN).read_text(encoding="utf-8")
-    return re.search(r'which is answered by\n(.*?)"', text, re.S)[1].split("\n  ")
+    [found] = re.findall(r'which is answered by\n(.*?)"', text, re.S)
+    return str(found).split("\n  ")
 
 
-def cases():
+def cases() -> dict[str, str]:
     """The cases of networks by their names, in their order, each as its line."""
     lines = Path(CASES).read_text(encoding="utf-8").splitlines()
     return {json.loads(line)["name"]: line for line in lines}
 
 
-def with_turns(count):
+def with_turns(count: int) -> str:
     """The lines of the help's example and so many turns of its packet."""
     return "\n".join([*example(), *[TURN] * count]) + "\n"
 
 
-def example_case():
+def example_case() -> str:
     """The case of the help's example, as a line."""
     said = "\n".join(answers()).strip() + "\n"
     given = {"name": EXAMPLE_CASE, "args": ["run"], "stdin": with_turns(2)}
     return json.dumps({**given, "status": 0, "stdout": said}, separators=(",", ":"))
 
 
-def written(path):
+def written(path: str) -> str:
     """The text of a file with the topologies, the example or a case in it."""
     if path == CASES:
         return "\n".join({**cases(), EXAMPLE_CASE: example_case()}.values()) + "\n"

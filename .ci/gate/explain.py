@@ -12,28 +12,30 @@ import json
 import os
 import re
 import sys
-from collections.abc import Sequence
+from collections.abc import Iterator, Sequence
+from typing import Any
 
 from gate import TOP, children
+from gate.cases import Case
 from gate.words import reader
 
 SAID = re.compile(rb"line (\d+): (warning: |(?:topology )?no \d+ \w+: )")
 
 
-def program(name):
+def program(name: str) -> str:
     path = TOP / "crates" / name / "out" / name
     if not os.access(path, os.X_OK):
         sys.exit(f"explain: {path} is not there: rt ci builds it")
     return str(path)
 
 
-def explained(text):
+def explained(text: bytes) -> list[bytes] | None:
     """The lines that `explain` prints of this input; `None` if it ends with a fault."""
     run = children.run([program("scionet_view"), "explain"], text)
     return None if run.returncode else run.stdout.split(b"\n")[:-1]
 
 
-def changed(topology, case):
+def changed(topology: Any, case: Case) -> Any:
     """The topology of a case: another one, or this one with one value changed or taken out."""
     if "topology" in case:
         return case["topology"]
@@ -49,20 +51,20 @@ def changed(topology, case):
     return topology
 
 
-def lines_of(case, row):
+def lines_of(case: Case, row: list[str]) -> list[Any]:
     """The lines of a case, over those of the first example."""
     if "lines" not in case:
         return [changed(json.loads(row[0]), case)]
     return row[: case.get("after", 0)] + case["lines"]
 
 
-def input_of(case, row):
+def input_of(case: Case, row: list[str]) -> bytes:
     """The bytes of a case: each line is a text, or a value that is written as one."""
     lines = (it if isinstance(it, str) else json.dumps(it) for it in lines_of(case, row))
     return "".join(f"{line}\n" for line in lines).encode()
 
 
-def fault_difference(case, row):
+def fault_difference(case: Case, row: list[str]) -> str | None:
     """What is wrong with the explanation of a faulty input, or nothing."""
     said = [line.decode() for line in explained(input_of(case, row)) or []]
     if len(said) == len(case["said"]) and all(map(str.startswith, said, case["said"])):
@@ -70,7 +72,7 @@ def fault_difference(case, row):
     return f"{case['name']}: {said}, not {case['said']}"
 
 
-def network_difference(name, text):
+def network_difference(name: str, text: bytes) -> tuple[str | None, int]:
     """What is wrong with the explanations of a network's lines, or nothing, and how many replies
     were compared."""
     run = children.run([program("scionet"), "run"], text)
@@ -80,9 +82,9 @@ def network_difference(name, text):
         is_right = run.stderr not in (b"", b"scionet: topology refused\n")
         return None if is_right else f"{name}: a fault", 0
     begun = [SAID.match(line) for line in said]
-    if not all(begun):
-        return f"{name}: {said[begun.index(None)]}", len(replies)
-    found = [(int(it[1]), it[2]) for it in begun if it[2] != b"warning: "]
+    if None in begun:
+        return f"{name}: {said[begun.index(None)]!r}", len(replies)
+    found = [(int(it[1]), it[2]) for it in begun if it and it[2] != b"warning: "]
     wanted = [
         (number, reply + b": ")
         for number, reply in enumerate(replies, 1)
@@ -91,12 +93,12 @@ def network_difference(name, text):
     return None if found == wanted else f"{name}: {found}, not {wanted}", len(replies)
 
 
-def examples():
+def examples() -> Iterator[tuple[str, bytes]]:
     for name in ["fork", "pair", "row"]:
         yield name, (TOP / f"examples/{name}.txt").read_bytes()
 
 
-def networks():
+def networks() -> Iterator[tuple[str, bytes]]:
     for file in sorted((TOP / "cases").glob("*.jsonl")):
         for line in file.read_text(encoding="utf-8").splitlines():
             case = json.loads(line)

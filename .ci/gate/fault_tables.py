@@ -1,6 +1,7 @@
 """The numbers and names of all refusals, as the definitions of the crates have them."""
 import re
 import sys
+from collections.abc import Iterable
 from pathlib import Path
 
 # The types of refusals by crate; the calls that pass them on by their numbers, and the lines that
@@ -58,54 +59,57 @@ ALONE = {
 }
 
 
-def number_at(text, term):
+def found(pattern: str, text: str) -> re.Match[str]:
+    """Where a text has a pattern, without which there is no table."""
+    place = re.search(pattern, text, re.M)
+    if place is None:
+        sys.exit(f"no definition has {pattern!r}")
+    return place
+
+
+def number_at(text: str, term: str) -> tuple[int, str] | None:
     """The number and the name that a row of a table has: its own, or those of a refusal of a crate
     below. Nothing if the row passes on all refusals of a type."""
     if own := re.fullmatch(r'\((\d+), codes "(\w+)"\)', term):
         return int(own[1]), own[2]
     if one := re.fullmatch(r"(\w+)\.(\w+)", term):
-        file = re.search(rf"^use Rattle\.(\w+)\.specs\.(\w+) as {one[1]}$", text, re.M)
-        below = Path("crates", file[1], "specs", f"{file[2]}.antt").read_text()
-        return number_at(below, re.search(rf"^{one[2]} = (.*)$", below, re.M)[1])
+        crate, file = found(rf"^use Rattle\.(\w+)\.specs\.(\w+) as {one[1]}$", text).groups()
+        below = Path("crates", crate, "specs", f"{file}.antt").read_text()
+        return number_at(below, found(rf"^{one[2]} = (.*)$", below)[1])
     if one := re.fullmatch(r"(\w+)\.code_and_name \w+\.(\w+)", term):
-        below = re.search(rf"^use Rattle\.(\w+)\.specs\.\w+ as {one[1]}$", text, re.M)[1]
+        below = found(rf"^use Rattle\.(\w+)\.specs\.\w+ as {one[1]}$", text)[1]
         (type_name, *_), *_ = TYPES[below]
         return numbers_of(below, type_name)[one[2]]
     return None
 
 
-def numbers_of(crate, type_name):
+def numbers_of(crate: str, type_name: str) -> dict[str, tuple[int, str]]:
     """The numbers and names of a type's refusals, by variant, as the definitions have them."""
     for path in sorted(Path("crates", crate, "specs").glob("*.antt")):
         text = path.read_text()
         if re.search(rf"^abbrev pub code_and_name : {type_name} ", text, re.M):
             rows = re.findall(r"^code_and_name \(?(\w+)[^=]*= (.*)$", text, re.M)
-            found = {variant: number_at(text, term) for variant, term in rows}
-            return {variant: row for variant, row in found.items() if row}
+            numbers = {variant: number_at(text, term) for variant, term in rows}
+            return {variant: row for variant, row in numbers.items() if row}
     sys.exit(f"{crate} has no table of {type_name}")
 
 
-def alone():
+def alone() -> dict[str, int]:
     """The numbers of refusals that no table has, by their names."""
-    found = {}
-    for name, (file, pattern) in ALONE.items():
-        number = re.search(pattern, Path("crates", file).read_text(), re.M)
-        if number is None:
-            sys.exit(f"{file} has no number of {name}")
-        found[name] = int(number[1])
-    return found
+    texts = {name: Path("crates", file).read_text() for name, (file, _) in ALONE.items()}
+    return {name: int(found(ALONE[name][1], text)[1]) for name, text in texts.items()}
 
 
-def by_number(rows):
+def by_number(rows: Iterable[tuple[int, str]]) -> dict[int, str]:
     """The name of each number; a number with two names ends the script."""
-    names = {}
+    names: dict[int, str] = {}
     for number, name in rows:
         if names.setdefault(number, name) != name:
             sys.exit(f"{number} is {name} and {names[number]}")
     return names
 
 
-def all_names():
+def all_names() -> dict[int, str]:
     """The name of each number that a refusal has, of all crates."""
     tables = [numbers_of(crate, one[0]) for crate, types in TYPES.items() for one in types]
     rows = [it for table in tables for it in table.values()]

@@ -3,7 +3,7 @@ or to a heading or an anchor that its file lacks. Links to other hosts are not f
 
 It prints how many links there are and how many are dead, and ends with 1 where one is."""
 import re
-from collections.abc import Sequence
+from collections.abc import Iterator, Sequence
 from pathlib import Path
 from urllib.parse import unquote
 
@@ -18,28 +18,28 @@ ANCHOR = re.compile(r"<a (?:id|name)=\"([^\"]+)\"")
 ELSEWHERE = re.compile(r"[a-z][a-z+.-]*:", re.I)
 
 
-def prose(text):
+def prose(text: str) -> str:
     """The text without blocks of code."""
     return BLOCK.sub("", text)
 
 
-def links(text):
+def links(text: str) -> Iterator[str]:
     """The targets of the links of a text. Code spans may hold a link's text, and no link."""
     blank = SPAN.sub(lambda it: "`" + re.sub(r"[\[\]()]", " ", it[0]) + "`", prose(text))
     for one in LINK.finditer(blank):
         yield one[1] or one[2]
 
 
-def slug(heading):
+def slug(heading: str) -> str:
     """The anchor that a heading gets: its words in small letters, joined by hyphens."""
     words = re.sub(r"\[([^\]]*)\]\([^)]*\)", r"\1", heading).lower()
     return re.sub(r"[^\w\- ]", "", words).replace(" ", "-")
 
 
-def anchors(text):
+def anchors(text: str) -> set[str]:
     """The anchors of a file; a heading that occurs again has a number behind it."""
     found = {*ANCHOR.findall(prose(text))}
-    counts = {}
+    counts: dict[str, int] = {}
     for heading in HEADING.findall(prose(text)):
         name = slug(heading)
         count = counts[name] = counts.get(name, -1) + 1
@@ -47,7 +47,7 @@ def anchors(text):
     return found
 
 
-def is_dead(source, target, known):
+def is_dead(source: Path, target: str, known: dict[Path, set[str]]) -> bool:
     """Whether the target of a link of this file is missing."""
     path, _, anchor = unquote(target).partition("#")
     place = (source.parent / path).resolve() if path else source.resolve()

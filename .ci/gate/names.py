@@ -4,7 +4,8 @@ definitions, types and clauses have. Pages that are printed from the source alon
 
 It prints these names, and how many were looked up, and ends with 1 where one is gone."""
 import re
-from collections.abc import Sequence
+from collections.abc import Iterable, Sequence
+from pathlib import Path
 
 from gate.pages import files
 from gate.words import reader
@@ -20,7 +21,7 @@ rattle_dealloc rattle_env rattle_env_at rattle_errno rattle_realloc rattle_set_e
 std_collections std_heap std_io"""
 
 
-def known(names):
+def known(names: Iterable[Path]) -> set[str]:
     """The words of all paths, and of all files but pages, pictures, edits and the gate's own."""
     words = {*ELSEWHERE.split()}
     for name in names:

@@ -8,7 +8,7 @@ there is a fault, or where there is no example.
 """
 import json
 import re
-from collections.abc import Sequence
+from collections.abc import Iterator, Sequence
 from pathlib import Path
 
 from gate.words import reader
@@ -18,7 +18,7 @@ RANGE = re.compile(r"\{(\d+)\.\.(\d+)\}")
 TEST = re.compile(r"#\[test\]\s+fn (\w+)\(")
 
 
-def table(page):
+def table(page: str) -> Iterator[tuple[str, list[str]]]:
     """The examples of the page: what each is, and its places as they are written."""
     for line in page.splitlines():
         cells = [cell.strip() for cell in line.strip("|").split("|")]
@@ -27,7 +27,7 @@ def table(page):
             yield cells[0], PLACE.findall(cells[1])
 
 
-def spread(place):
+def spread(place: str) -> list[str]:
     """The places that one with a range of numbers stands for."""
     found = RANGE.search(place)
     if not found:
@@ -36,21 +36,21 @@ def spread(place):
     return [place[: found.start()] + str(it) + place[found.end() :] for it in numbers]
 
 
-def names(top):
+def names(top: Path) -> Iterator[str]:
     """The names of the cases in their order, each behind the name of its file."""
     for file in sorted((top / "cases").glob("*.jsonl")):
         for line in file.read_text(encoding="utf-8").splitlines():
             yield f"{file.stem}: {json.loads(line)['name']}"
 
 
-def tests(top):
+def tests(top: Path) -> Iterator[str]:
     """The tests, each behind its crate and its module."""
     for file in (top / "crates").glob("*/src/*.rt"):
         for name in TEST.findall(file.read_text(encoding="utf-8")):
             yield f"{file.parts[-3]}::{file.stem}::{name}"
 
 
-def faults(top):
+def faults(top: Path) -> tuple[list[str], int]:
     """What is wrong with the page and with the names of cases, and how many examples it has."""
     cases = [*names(top)]
     known = {*cases, *tests(top)}

@@ -10,7 +10,7 @@ PAGES = ("README.md", "docs/headline.md", "docs/book.md")
 BEGINNING = SENTENCE.split(",")[0]
 
 
-def fault_of(page):
+def fault_of(page: str) -> str | None:
     """What is wrong with the quotation of a page, if something is."""
     text = Path(page).read_text(encoding="utf-8")
     if text.count(BEGINNING) != 1:

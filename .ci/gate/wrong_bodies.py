@@ -4,7 +4,7 @@ it breaks, and `# refused:`, by which clause; an edit that turns a statement and
 one crate, in crates/NAME/must-fail/NOTES.md. This is docs/wrong-bodies.md."""
 import re
 import sys
-from collections.abc import Sequence
+from collections.abc import Iterable, Iterator, Sequence
 from pathlib import Path
 
 from gate.pages import settle
@@ -23,7 +23,7 @@ beside them don't prove whatever stands there.
 class Edit:
     """An edit of a crate, and what its head says."""
 
-    def __init__(self, path):
+    def __init__(self, path: Path) -> None:
         self.crate, self.name = path.parts[1], path.stem
         found = HEAD.match(path.read_text())
         if found is None:
@@ -32,7 +32,7 @@ class Edit:
         self.meaning, self.refused = (it.replace("\n#  ", "") for it in (found[2], found[3]))
 
 
-def table(edits, what):
+def table(edits: Iterable[Edit], what: str) -> Iterator[str]:
     """The rows of some edits; those of several crates name the crate."""
     yield f"| edit | {what} | refused by |\n|---|---|---|"
     for it in edits:
@@ -41,7 +41,7 @@ def table(edits, what):
     yield ""
 
 
-def check_breaches(text, edits):
+def check_breaches(text: str, edits: Iterable[Edit]) -> None:
     """Stops where a row of the breaches names an edit that is not there."""
     known = {(it.crate, it.name) for it in edits}
     rows = [line for line in text.split("\n") if line.startswith("| ")]
@@ -51,7 +51,7 @@ def check_breaches(text, edits):
                 sys.exit(f"{BY_HAND} names {name} of {crate}, which is no edit")
 
 
-def document():
+def document() -> Iterator[str]:
     """The whole text."""
     edits = [Edit(path) for path in sorted(Path(".").glob("crates/*/must-fail/*.edit"))]
     by_hand = BY_HAND.read_text()

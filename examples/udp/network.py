@@ -41,10 +41,10 @@ def number_of(ia):
     return (int(isd) << 48) + low
 
 
-def bound():
-    """A socket at a free port of the loopback address."""
+def bound(port=0):
+    """A socket at this port of the loopback address, or at a free one."""
     one = socket.socket(socket.AF_INET, socket.SOCK_DGRAM)
-    one.bind((LOOPBACK, 0))
+    one.bind((LOOPBACK, port))
     return one
 
 
@@ -128,16 +128,18 @@ class Routers:
         self.hosts, self.children, self.is_quiet = bound(), {}, is_quiet
         self.hosts.settimeout(SECONDS)
         owners = [(ia, it) for ia, own in network.ases.items() for it in range(own["routers"])]
-        self.ports = dict(zip(owners, free_ports(len(owners))))
+        self.held = {owner: bound() for owner in owners}
+        self.ports = {owner: one.getsockname()[1] for owner, one in self.held.items()}
         self.lines, self.told_at = os.pipe()
         self.told = self.read()
         for owner in owners:
             self.begin(owner)
 
     def begin(self, owner):
-        """Starts a router, which is ready then."""
+        """Starts a router, which is ready then. It takes over the socket that holds its port."""
         words = [self.program, *map(str, self.words(*owner))]
-        self.children[owner] = subprocess.Popen(words, stdout=self.told_at)
+        with self.held.pop(owner, None) or bound(self.ports[owner]) as own:
+            self.children[owner] = subprocess.Popen(words, stdin=own, stdout=self.told_at)
         if next(self.told) != "ready":
             sys.exit("network: a router did not begin")
 

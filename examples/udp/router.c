@@ -4,7 +4,8 @@
  *     router PORT NAME IA NUMBER KEY NOW PACKETS SECONDS HOST PEER..
  *
  * It is an example of a host, and not proved: scion_step is, to which it gives each packet. It
- * binds 127.0.0.1 alone, and ends after so many packets or seconds. IA and KEY are hexadecimal; NOW
+ * binds 127.0.0.1 alone, and ends after so many packets or seconds. If standard input is a socket,
+ * that is bound to PORT already, so that nobody else gets the port. IA and KEY are hexadecimal; NOW
  * is the second at which all packets come, where another host would read its clock. HOST is the
  * port of the hosts of the AS. A peer is one of
  *
@@ -142,17 +143,25 @@ static int forward(int on, const char *name, uint32_t now, uint16_t host) {
     return 1;
 }
 
+/* The socket of the router: standard input, or a new one at this port. */
+static int socket_at(uint16_t port) {
+    struct sockaddr_in own = loopback(port), given;
+    socklen_t size = sizeof given;
+    if (!getsockname(STDIN_FILENO, (struct sockaddr *)&given, &size)) return STDIN_FILENO;
+    int on = socket(AF_INET, SOCK_DGRAM, 0);
+    if (on < 0 || bind(on, (struct sockaddr *)&own, sizeof own)) stop("the port is not free");
+    return on;
+}
+
 int main(int count, char **words) {
     if (count < 10) stop("router PORT NAME IA NUMBER KEY NOW PACKETS SECONDS HOST PEER..");
-    struct sockaddr_in own = loopback((uint16_t)atoi(words[1]));
     self.ia = strtoull(words[3], NULL, 16);
     self.router = (uint8_t)atoi(words[4]);
     self.key_len = read_key(words[5]);
     uint32_t now = (uint32_t)strtoull(words[6], NULL, 10);
     for (int i = 10; i < count; i++) add_peer(words[i]);
     alarm((unsigned)atoi(words[8]));
-    int on = socket(AF_INET, SOCK_DGRAM, 0);
-    if (on < 0 || bind(on, (struct sockaddr *)&own, sizeof own)) stop("the port is not free");
+    int on = socket_at((uint16_t)atoi(words[1]));
     printf("ready\n");
     fflush(stdout);
     for (int left = atoi(words[7]); left > 0;)

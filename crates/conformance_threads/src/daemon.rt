@@ -142,7 +142,7 @@ fn both<R: Wait>(
 
 /// Whether a cache with room for one answer, asked for both directions in turn three times each,
 /// gives the same each time and none from the cache.
-fn in_turn<R: Wait>(calls: &Calls<'_, R>, board: &mut BoardWriter) -> Option<[bool; 3]> {
+pub(crate) fn in_turn<R: Wait>(calls: &Calls<'_, R>, board: &mut BoardWriter) -> Option<[bool; 3]> {
     let daemon = calls.daemon(1)?;
     let mut reader = published(calls, board)?;
     let first = both(calls, &daemon, &mut reader, 1);

@@ -18,3 +18,11 @@ fn what_is_published_is_found_and_served(rt: HostRuntime) -> Result<(), Fail> {
     assert_eq!(rt; rows, Some((findings, Some([true, true, true]))));
     Ok(())
 }
+
+/// Also where no answer is missing from the cache since memory ran out.
+#[test]
+fn a_cache_of_one_never_serves_either_of_two(rt: HostRuntime) -> Result<(), Fail> {
+    let rounds = on_board(&rt, Shortage::none(), daemon::in_turn)?;
+    assert_eq!(rt; rounds, Some([true, true, true]));
+    Ok(())
+}

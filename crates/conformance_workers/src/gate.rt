@@ -3,7 +3,7 @@
 
 ghost use Rattle.std.specs.Prelude.{◌<◌, ◌≤◌};
 
-use crate::network::{first, last, long_network, middle, network};
+use crate::network::{crowded_network, first, last, long_network, middle, network};
 use crate::runs::flights_of;
 use network_core::Net;
 use refusing::Shortage;
@@ -179,7 +179,8 @@ static CROWD: Awaited = [&[(1, 1)], &[(0, 3), (2, 3)], &[(1, 1)]];
 /// Three flights of either end come to the worker of the middle AS, whose inbox has three places.
 /// It is held at its first turn until both other workers have begun three, and so have passed on
 /// what they had from the first two; they wait at their first until it has begun its own, and so
-/// has taken it out of its inbox. While it is held, it is passed four.
+/// has taken it out of its inbox. While it is held, it is passed four, so that one to three of all
+/// are dropped.
 #[test]
 fn a_flight_is_dropped_while_workers_run(rt: HostRuntime) -> Result<(), Fail> {
     let ways = [
@@ -194,31 +195,47 @@ fn a_flight_is_dropped_while_workers_run(rt: HostRuntime) -> Result<(), Fail> {
     let net = network(rt.alloc(), &ways, &Shortage::none()).ok_or(AllocError)?;
     let turns = Turns::holding(&CROWD);
     let report = report_of(&rt, rt.alloc(), &net, 3, 3, &turns)?;
-    assert!(rt; report.ends().iter().any(|end| *end == End::Dropped(1)));
+    let dropped = report
+        .ends()
+        .iter()
+        .filter(|end| **end == End::Dropped(1))
+        .count();
+    assert!(rt; 1 <= dropped && dropped <= 3);
     assert!(rt; turns.are_paired());
     Ok(())
 }
 
+/// The turns of each worker where one flight has one in each of eight ASes, whose routers are dealt
+/// out to the workers in turn.
+static TURNS: [(usize, [usize; 8]); 8] = [
+    (1, [8, 0, 0, 0, 0, 0, 0, 0]),
+    (2, [4, 4, 0, 0, 0, 0, 0, 0]),
+    (3, [3, 3, 2, 0, 0, 0, 0, 0]),
+    (4, [2, 2, 2, 2, 0, 0, 0, 0]),
+    (5, [2, 2, 2, 1, 1, 0, 0, 0]),
+    (6, [2, 2, 1, 1, 1, 1, 0, 0]),
+    (7, [2, 1, 1, 1, 1, 1, 1, 0]),
+    (8, [1, 1, 1, 1, 1, 1, 1, 1]),
+];
+
 #[test]
-fn eight_workers_have_a_turn_each(rt: HostRuntime) -> Result<(), Fail> {
+fn each_of_one_to_eight_workers_has_its_turns(rt: HostRuntime) -> Result<(), Fail> {
     let net = long_network(rt.alloc())?;
-    let turns = Turns::new();
-    let report = report_of(&rt, rt.alloc(), &net, 8, 4096, &turns)?;
-    assert_eq!(rt; report.ends(), [End::Delivered(8)].as_slice());
-    assert_eq!(rt; turns.of_workers(), [1; 8]);
-    assert!(rt; turns.are_paired());
+    for (workers, turns_of_workers) in &TURNS {
+        let turns = Turns::new();
+        let report = report_of(&rt, rt.alloc(), &net, *workers, 4096, &turns)?;
+        assert_eq!(rt; report.ends(), [End::Delivered(8)].as_slice());
+        assert_eq!(rt; turns.of_workers(), *turns_of_workers);
+        assert!(rt; turns.are_paired());
+    }
     Ok(())
 }
 
 /// One flight more than an inbox may have places is dropped, and no other.
 #[test]
 fn the_fullest_inbox_is_carried(rt: HostRuntime) -> Result<(), Fail> {
-    let mut ways = Vec::new(rt.alloc());
-    for _ in 0..4096 {
-        ways.push((last(), first()))?;
-    }
-    for _ in 0..2 {
-        let net = network(rt.alloc(), &ways, &Shortage::none()).ok_or(AllocError)?;
+    for packets in [4096, 4097] {
+        let net = crowded_network(rt.alloc(), packets)?;
         let turns = Turns::new();
         let report = report_of(&rt, rt.alloc(), &net, 8, 4096, &turns)?;
         let (carried, dropped) = report.ends().split_at(report.ends().len().min(4096));
@@ -226,7 +243,6 @@ fn the_fullest_inbox_is_carried(rt: HostRuntime) -> Result<(), Fail> {
         assert!(rt; dropped.iter().all(|end| *end == End::Dropped(0)));
         assert_eq!(rt; turns.of_workers(), [4096, 4096, 4096, 0, 0, 0, 0, 0]);
         assert!(rt; turns.are_paired());
-        ways.push((last(), first()))?;
     }
     Ok(())
 }

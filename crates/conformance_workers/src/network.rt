@@ -72,6 +72,21 @@ pub(crate) fn network(alloc: Global, ways: &[(IsdAs, IsdAs)], shortage: &Shortag
     }
 }
 
+/// The row's network with so many packets from its last AS to its first, by the path of one answer.
+pub(crate) fn crowded_network(alloc: Global, packets: usize) -> Result<Net, RunFault> {
+    let mut text = String::from_str(alloc, row())?;
+    text.push_str(issuing())?;
+    let (src, dst) = (last(), first());
+    writeln!(
+        text,
+        r#"{{"do":"ask","src":"{src}","dst":"{dst}","limit":4}}"#
+    )?;
+    for _ in 0..packets {
+        writeln!(text, r#"{{"do":"send","ask":0,"path":0,"payload":""}}"#)?;
+    }
+    network_of(alloc, text.as_str())
+}
+
 /// Eight ASes in a line, with a packet from the last to the first over the segment between them.
 pub(crate) fn long_network(alloc: Global) -> Result<Net, RunFault> {
     let mut text = line(alloc, 8)?;
