@@ -13,9 +13,9 @@ use Rattle.path_server.proofs.Plain.{answer_is_plain, Contains-registered_kept}
 use Rattle.network_core.specs.declared.fault.EventFault.TheVariants as faults
 use Rattle.network_core.specs.declared.reply.Reply.{Reply}
 use Rattle.network_core.specs.declared.reply.Reply.TheVariants.{Done}
-use Rattle.network_core.specs.Event.{EventValue, Tick, Originate, Extend, Terminate}
+use Rattle.network_core.specs.Event.{EventValue, Originate, Extend, Terminate}
 use Rattle.network_core.specs.Value.{NetValue}
-use Rattle.network_core.specs.Step.{Made, has_room, with_beacon, with_segment, beacon_at, new_segment, originates, extends, terminates, ticks, Leads, Step}
+use Rattle.network_core.specs.Step.{Made, has_room, with_beacon, with_segment, beacon_at, new_segment, originates, extends, terminates, Leads, Step}
 use Rattle.network_core.specs.Delivery.{is_done}
 use Rattle.network_core.proofs.Effects.{both_done, done_below}
 use Rattle.network_core.specs.declared.reply.Reply.TheVariants as replies
@@ -38,13 +38,6 @@ led : (made : Made) (old : NetValue) (reply : Reply) (new : NetValue) → Leads 
     → (x : Reply × NetValue) × ((made ≡ Ok x) × (new ≡ x.1))
 led (Ok x) old reply new is done = (x, (refl, is.1))
 led (Err fault) old reply new is done = absurd (let refused : is_done reply ≡ false = ap is_done is.0 in cc)
-
-after_tick : (old new : NetValue) (moment : ℕ) → new ≡ record old { moment = moment } → Grows old new
-after_tick old new moment is = record {
-  network = ap (λ (n : NetValue). n.network) is;
-  beacons = λ number chain there. ap (λ (n : NetValue). slice_get n.beacons number) is ∙ there;
-  segments = λ segment there. subst (λ (n : NetValue). Contains n.segments segment) (sym is) there;
-}
 
 -- one more beacon
 adds : (old new : NetValue) (chain : Chain) (x : Reply × NetValue) → with_beacon old chain ≡ Ok x → new ≡ x.1
@@ -120,10 +113,6 @@ ends old new beacon ia x made is =
 pub grows : (old new : NetValue) (event : EventValue) (reply : Reply) → IsOfBeaconing event
     → Step old event reply new → is_done reply ≡ true
     → Grows old new × StaysStored new event
-grows old new (Tick to) reply own is done =
-    let made = led (ticks old to) old reply new is done in
-    let inner = both_done _ (λ _. Ok (Done, record old { moment = to })) made.0 made.1.0 in
-    (after_tick old new to (made.1.1 ∙ ap (λ (p : Reply × NetValue). p.1) (sym (ok_is _ made.0 inner.1.1))), tt)
 grows old new (Originate ia egress beta) reply own is done =
     let made = led (originates old ia egress beta) old reply new is done in
     let inner = both_done (refused_as faults.Beacon (originated_beacon old.network ia egress old.moment beta)) (with_beacon old) made.0 made.1.0 in
@@ -182,10 +171,6 @@ ends_none (Err fault) old reply new is none made = is.1
 pub unchanged : (old new : NetValue) (event : EventValue) (reply : Reply) → IsOfBeaconing event
     → Step old event reply new → brings_new reply ≡ false
     → new ≡ old
-unchanged old new (Tick to) reply own is none =
-    unled (ticks old to) old reply new is none (λ x made.
-    (let inner = both_done _ (λ _. Ok (Done, record old { moment = to })) x made in
-    ap (λ (p : Reply × NetValue). brings_new p.0) (sym (ok_is _ x inner.1.1))))
 unchanged old new (Originate ia egress beta) reply own is none =
     unled (originates old ia egress beta) old reply new is none (λ x made.
     (let inner = both_done (refused_as faults.Beacon (originated_beacon old.network ia egress old.moment beta)) (with_beacon old) x made in begun_new old inner.0 x inner.1.1))

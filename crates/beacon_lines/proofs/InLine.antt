@@ -1,5 +1,5 @@
 -- Bytes that become one line, one after another.
-use Rattle.std.proofs.Common.{arith, ◌≡◌, ℕ, ◌+◌, ◌<◌, List, [], ◌∷◌, ◌++◌, length, take, drop, set, get_or, sym, ap, ◌∙◌, subst, append_assoc, append-nil, length-take}
+use Rattle.std.proofs.Common.{arith, ◌≡◌, ℕ, ◌+◌, ◌<◌, List, [], ◌∷◌, ◌++◌, length, take, drop, set, get_or, sym, ap, ◌∙◌, append_assoc, append-nil, length-take}
 use Rattle.std.proofs.Math.Seq.{set-append_seam}
 use Rattle.std.proofs.lemmas.List.{drop_more, get_or_at, length-map, map_more, take_all, drop_all}
 use Rattle.beacon_lines.specs.Lines.{byte_in_line, one_line}
@@ -23,7 +23,8 @@ next_as_was bytes i within =
     ∙ get_or_at first (get_or bytes i 0) rest 0 i (long bytes i within)
 
 -- one byte more stands in the line
-pub next_in_line : (bytes : List ℕ) (i y : ℕ) → i < length bytes → y ≡ byte_in_line (get_or bytes i 0)
+pub next_in_line : (bytes : List ℕ) (i y : ℕ) → i < length bytes
+    → y ≡ byte_in_line (get_or bytes i 0)
     → set (line_up_to bytes i) i y ≡ line_up_to bytes (i + 1)
 next_in_line bytes i y within is =
     let first = one_line (take i bytes) in

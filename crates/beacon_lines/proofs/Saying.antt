@@ -13,6 +13,7 @@ use Rattle.scion_topology.specs.declared.fault.TopologyFault.TheVariants.{NotJso
 use Rattle.scion_topology.specs.Network.{Network}
 use Rattle.scion_topology.specs.Rules.{IsNetwork}
 use Rattle.scion_topology.specs.Topology.{network_in, of_value}
+use Rattle.network_core.specs.Event.{Tick}
 use Rattle.network_core.specs.Value.{NetValue}
 use Rattle.network_core.proofs.Runs.{is_run}
 use Rattle.beacon_lines.specs.declared.event.BeaconEvent.{BeaconEvent}
@@ -32,13 +33,15 @@ lines_of (event ∷ events) =
     ∙ ap (λ later. event_line (network_event event) ++ later) (lines_of events)
     ∙ sym (flat_map-cons (λ event. event_line (network_event event)) event events)
 
-pub are_lines : (line text : List ℕ) (network : Network) (events : List BeaconEvent) (net : NetValue)
+pub are_lines : (now : ℕ) (line text : List ℕ) (network : Network) (events : List BeaconEvent) (net : NetValue)
     → network_in line ≡ Ok network
-    → IsNetwork network → net.network ≡ network → IsBeaconing net.network (map network_event events) net
-    → text ≡ (line ++ codes "\n") ++ flat_map (λ event. event_line (network_event event)) events
-    → AreBeaconLines line text
-are_lines line text network events net topology known same beaconing says =
-    let own = subst (λ n. IsBeaconing n (map network_event events) net) same beaconing in
+    → IsNetwork network → net.network ≡ network → IsBeaconing net.network now (map network_event events) net
+    → text ≡ ((line ++ codes "\n") ++ event_line (Tick now))
+    ++ flat_map (λ event. event_line (network_event event)) events
+    → AreBeaconLines now line text
+are_lines now line text network events net topology known same beaconing says =
+    let own = subst (λ n. IsBeaconing n now (map network_event events) net) same beaconing in
+    let behind = flat_map (λ event. event_line (network_event event)) events in
     record {
       network = network;
       topology = topology;
@@ -46,8 +49,12 @@ are_lines line text network events net topology known same beaconing says =
       net = net;
       beaconing = own;
       run = is_run network own.history known own.is own.framed;
-      says = says ∙ append_assoc line (codes "\n") (flat_map (λ event. event_line (network_event event)) events)
-          ∙ ap (λ later. line ++ (codes "\n" ++ later)) (sym (lines_of events));
+      says = says ∙ append_assoc (line ++ codes "\n") (event_line (Tick now)) behind
+          ∙ append_assoc line (codes "\n") (event_line (Tick now) ++ behind)
+          ∙ ap (λ later. line ++ (codes "\n" ++ (event_line (Tick now) ++ later)))
+          (sym (lines_of events))
+          ∙ ap (λ later. line ++ (codes "\n" ++ later))
+          (sym (flat_map-cons event_line (Tick now) (map network_event events)));
     }
 
 -- memory may run out where the bytes are UTF-8

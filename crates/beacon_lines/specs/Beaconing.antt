@@ -1,6 +1,6 @@
 -- A beaconing: ASes begin, pass on and end beacons (draft-dekater-scion-controlplane, path
 -- construction).
-use Rattle.std.specs.Prelude.{◌≡◌, Bool, true, List, map, All, Contains, Ok}
+use Rattle.std.specs.Prelude.{◌≡◌, ℕ, Bool, true, List, ◌∷◌, map, All, Contains, Ok}
 use Rattle.scion_topology.specs.Network.{Network}
 use Rattle.path_segment.specs.Chain.{Chain}
 use Rattle.network_core.specs.Event.{EventValue, Tick, Originate, Extend, Terminate}
@@ -15,14 +15,12 @@ use Rattle.beacon_lines.specs.declared.event.BeaconEvent.TheVariants as events
 
 -- an event of a beaconing, as one of a network
 abbrev pub network_event : BeaconEvent → EventValue
-network_event (events.Tick now) = Tick now
 network_event (events.Originate ia egress beta0) = Originate ia egress beta0
 network_event (events.Extend beacon ia egress) = Extend beacon ia egress
 network_event (events.Terminate beacon ia) = Terminate beacon ia
 
--- an event of a beaconing: the second is set, or a beacon is begun, passed on or ended
+-- an event of a beaconing after the first: a beacon is begun, passed on or ended
 abbrev pub IsOfBeaconing : EventValue → Type 0
-IsOfBeaconing (Tick to) = Unit {0}
 IsOfBeaconing (Originate ia egress beta) = Unit {0}
 IsOfBeaconing (Extend beacon ia egress) = Unit {0}
 IsOfBeaconing (Terminate beacon ia) = Unit {0}
@@ -39,19 +37,22 @@ abbrev pub brings_new : Reply → Bool
 brings_new (replies.Registered is_new) = is_new
 brings_new reply = is_done reply
 
--- these events, all of a beaconing, lead from a new network of this topology to this network; none
--- of them is refused, and the segments that they end are stored in it, each of them once
-pub record IsBeaconing (network : Network) (events : List EventValue) (net : NetValue) : Type 0 where
+-- these events, all of a beaconing, lead from a new network of this topology to this network, once
+-- its second is `now`; none of them is refused, and the segments that they end are stored in it,
+-- each of them once
+pub record IsBeaconing (network : Network) (now : ℕ) (events : List EventValue) (net : NetValue)
+    : Type 0 where
   pub history : List EventRecord
   pub is : IsHistory (new_net network) history
   pub framed : AllFramed history
-  pub of : map (λ one. one.event) history ≡ events
+  pub of : map (λ one. one.event) history ≡ Tick now ∷ events
   pub ends : net_after (new_net network) history ≡ net
   pub done : All (λ one. brings_new one.reply ≡ true) history
   pub own : All IsOfBeaconing events
   pub stored : All (StaysStored net) events
 
--- a network, and the events that have made it from its topology
+-- a network, its second, and the events that have made it from its topology at this second
 pub record BeaconRunValue : Type 0 where
   pub net : NetValue
+  pub second : ℕ
   pub events : List EventValue

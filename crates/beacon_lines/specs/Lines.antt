@@ -1,5 +1,5 @@
 -- The lines of a beaconing.
-use Rattle.std.specs.Prelude.{◌≡◌, ℕ, ◌==◌, ◌||◌, if◌then◌else◌, codes, List, [], ◌++◌, map, flat_map, Ok}
+use Rattle.std.specs.Prelude.{◌≡◌, ℕ, ◌==◌, ◌||◌, if◌then◌else◌, codes, List, [], ◌∷◌, ◌++◌, map, flat_map, Ok}
 use Rattle.std.specs.Fmt.{decimal}
 use Rattle.isd_as.specs.Address.{canonical}
 use Rattle.scion_topology.specs.Network.{Network}
@@ -34,12 +34,13 @@ event_line (Terminate beacon ia) =
     ++ (codes ",\"ia\":\"" ++ (canonical ia ++ codes "\"}\n")))
 event_line event = []
 
--- the text is the line of a topology and the lines of a beaconing of its network
-pub record AreBeaconLines (line text : List ℕ) : Type 0 where
+-- the text is the line of a topology and the lines of a beaconing of its network, whose beacons are
+-- all begun at the second `now`
+pub record AreBeaconLines (now : ℕ) (line text : List ℕ) : Type 0 where
   pub network : Network
   pub topology : network_in line ≡ Ok network
   pub events : List EventValue
   pub net : NetValue
-  pub beaconing : IsBeaconing network events net
+  pub beaconing : IsBeaconing network now events net
   pub run : IsRun network beaconing.history
-  pub says : text ≡ line ++ (codes "\n" ++ flat_map event_line events)
+  pub says : text ≡ line ++ (codes "\n" ++ flat_map event_line (Tick now ∷ events))

@@ -5,13 +5,9 @@ ghost use Rattle.beacon_lines.specs.Beaconing.{brings_new, network_event};
 use isd_as::{IfId, IsdAs};
 use network_core::{Event, Reply};
 
-/// An event of a beaconing.
+/// An event of a beaconing, after the one that sets its second.
 #[derive(Clone, Copy)]
 pub(crate) enum BeaconEvent {
-    /// The second is set.
-    Tick {
-        now: u32,
-    },
     /// An AS begins a beacon.
     Originate {
         ia: IsdAs,
@@ -62,7 +58,6 @@ impl BeaconEvent {
         ensures { option_map events.event_value result ≡ Some (network_event self.now) }
     {
         Some(match *self {
-            Self::Tick { now } => Event::Tick { now },
             Self::Originate { ia, egress, beta0 } => Event::Originate { ia, egress, beta0 },
             Self::Extend { beacon, ia, egress } => Event::Extend { beacon, ia, egress },
             Self::Terminate { beacon, ia } => Event::Terminate { beacon, ia },

@@ -4,12 +4,13 @@ ghost use Rattle.std.specs.String.{string_bytes};
 ghost use Rattle.refusal.specs.declared.fault.OrMemory.{OrMemory};
 ghost use Rattle.scion_topology.specs.declared.fault.TopologyFault.{TopologyFault};
 ghost use Rattle.scion_topology.specs.Topology.{network_in};
+ghost use Rattle.network_core.specs.Event.{Tick};
 ghost use Rattle.network_core.specs.Value.{new_net};
 ghost use Rattle.beacon_lines.specs.Beaconing.{network_event};
 ghost use Rattle.beacon_lines.specs.Lines.{AreBeaconLines, byte_in_line, event_line, one_line};
 
 use crate::event::BeaconEvent;
-use crate::line::push_line;
+use crate::line::{push_line, push_tick};
 use crate::options::BeaconingOptions;
 use crate::run::BeaconRun;
 use crate::search::SearchGraph;
@@ -47,11 +48,11 @@ fn beaconing_of(
     topology: Topology,
     options: &BeaconingOptions,
 ) -> Result<BeaconRun, AllocError>
-    ensures { IfOk result (λ run. run.net.network ≡ topology) }
+    ensures network { IfOk result (λ run. run.net.network ≡ topology) }
+    ensures second { IfOk result (λ run. run.second ≡ options.entry.now.now) }
 {
     let graph = SearchGraph::of(alloc, &topology)?;
-    let mut run = BeaconRun::new(alloc, topology);
-    run.attempt(alloc, &BeaconEvent::Tick { now: options.now })?;
+    let mut run = BeaconRun::new(alloc, topology, options.now)?;
     graph.spread(alloc, &mut run, options)?;
     Ok(run)
 }
@@ -68,27 +69,35 @@ fn push_lines(text: &mut String, events: &[BeaconEvent]) -> Result<(), AllocErro
     Ok(())
 }
 
-/// A line, with its end, and the lines of events behind it.
-fn text_of(alloc: Global, line: &str, events: &[BeaconEvent]) -> Result<String, AllocError>
-    ensures { IfOk result (λ text. string_bytes text ≡ (line.now ++ codes "\n")
+/// A line, with its end, and behind it the lines that set the second and have the events.
+fn text_of(
+    alloc: Global,
+    line: &str,
+    now: u32,
+    events: &[BeaconEvent],
+) -> Result<String, AllocError>
+    ensures { IfOk result (λ text. string_bytes text
+        ≡ ((line.now ++ codes "\n") ++ event_line (Tick now))
         ++ flat_map (λ event. event_line (network_event event)) events.now) }
 {
     let mut text = String::from_str(alloc, line)?;
     text.push_str("\n")?;
+    push_tick(&mut text, now)?;
     push_lines(&mut text, events)?;
     Ok(text)
 }
 
 /// The lines of a complete beaconing of the topology in this line, which is the first of them.
 fn lines_from(alloc: Global, line: &str, options: &BeaconingOptions) -> Result<String, ReadError>
-    ensures lines { IfOk result (λ text. AreBeaconLines line.now (string_bytes text)) }
+    ensures lines { IfOk result
+        (λ text. AreBeaconLines options.entry.now.now line.now (string_bytes text)) }
     ensures refused { IfErr result (λ error. (fault : TopologyFault)
         → error ≡ OrMemory.Refused fault → network_in line.now ≡ Err fault) }
 {
     let network = Topology::from_json(alloc, line.as_bytes())?;
     network.known();
     let run = beaconing_of(alloc, network, options)?;
-    Ok(text_of(alloc, line, run.events())?)
+    Ok(text_of(alloc, line, options.now, run.events())?)
 }
 
 /// The lines of a complete beaconing of the topology in these bytes, which are the first line.
@@ -97,7 +106,8 @@ fn lines_of_bytes(
     line: &[u8],
     options: &BeaconingOptions,
 ) -> Result<String, ReadError>
-    ensures lines { IfOk result (λ text. AreBeaconLines line.now (string_bytes text)) }
+    ensures lines { IfOk result
+        (λ text. AreBeaconLines options.entry.now.now line.now (string_bytes text)) }
     ensures refused { IfErr result (λ error. (fault : TopologyFault)
         → error ≡ OrMemory.Refused fault → network_in line.now ≡ Err fault) }
     ensures wanted { IfErr result (λ error. error ≡ OrMemory.Memory
@@ -126,8 +136,8 @@ pub fn beacon_lines(
     topology: Vec<u8>,
     options: &BeaconingOptions,
 ) -> Result<String, ReadError>
-    ensures lines { IfOk result
-        (λ text. AreBeaconLines (one_line topology.items) (string_bytes text)) }
+    ensures lines { IfOk result (λ text.
+        AreBeaconLines options.entry.now.now (one_line topology.items) (string_bytes text)) }
     ensures refused { IfErr result (λ error. (fault : TopologyFault)
         → error ≡ OrMemory.Refused fault → network_in (one_line topology.items) ≡ Err fault) }
     ensures wanted { IfErr result (λ error. error ≡ OrMemory.Memory

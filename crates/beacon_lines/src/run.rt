@@ -15,12 +15,13 @@ use scion_topology::Topology;
 use std::alloc::{AllocError, Global};
 use std::marker::Model;
 
-/// A network and the events that have made it from its topology. An invariant says that these
-/// events lead to the network, that none was refused, and that the segments which they end are
-/// stored, each once.
+/// A network, the second at which its beacons are begun, and the events that have made it from its
+/// topology after that second was set. An invariant says that these events lead to the network,
+/// that none was refused, and that the segments which they end are stored, each once.
 #[derive(Drop)]
 pub(crate) struct BeaconRun {
     net: Net,
+    second: u32,
     events: Vec<BeaconEvent>,
 }
 
@@ -33,9 +34,14 @@ impl Model for BeaconRun {
 
     ghost coded = { Prim.hlevel policy_codes };
 
-    ghost view = { λ r. record { net = r.net; events = map network_event r.events.items } };
+    ghost view = { λ r. record {
+      net = r.net;
+      second = r.second;
+      events = map network_event r.events.items;
+    } };
 
-    ghost invariant = { λ r. IsBeaconing r.net.network (map network_event r.events.items) r.net };
+    ghost invariant = { λ r.
+        IsBeaconing r.net.network r.second (map network_event r.events.items) r.net };
 }
 
 /// An event of a network that is to be done now.
@@ -62,14 +68,19 @@ fn happen(alloc: Global, net: &mut Net, due: &DueEvent<'_>) -> Result<Option<Eff
 }
 
 impl BeaconRun {
-    /// A new network of this topology, and no event.
-    pub(crate) fn new(alloc: Global, topology: Topology) -> BeaconRun
-        ensures { result.net ≡ new_net topology }
+    /// A network of this topology at the second `now`, and no event after that.
+    pub(crate) fn new(alloc: Global, topology: Topology, now: u32) -> Result<BeaconRun, AllocError>
+        ensures network { IfOk result (λ run. run.net.network ≡ topology) }
+        ensures second { IfOk result (λ run. run.second ≡ now) }
     {
-        BeaconRun {
-            net: Net::new(alloc, topology),
+        let mut net = Net::new(alloc, topology);
+        let tick = Event::Tick { now };
+        happen(alloc, &mut net, &DueEvent { event: tick })?;
+        Ok(BeaconRun {
+            net,
+            second: now,
             events: Vec::new(alloc),
-        }
+        })
     }
 
     /// The topology.
@@ -93,7 +104,8 @@ impl BeaconRun {
         alloc: Global,
         event: &BeaconEvent,
     ) -> Result<Option<Effect>, AllocError>
-        ensures { self.new.net.network ≡ self.old.net.network }
+        ensures network { self.new.net.network ≡ self.old.net.network }
+        ensures second { self.new.second ≡ self.old.second }
     {
         self.events.try_reserve(1)?;
         let Some(due) = event.of_network() else {

@@ -102,7 +102,8 @@ impl<'a> OriginBeacons<'a> {
         run: &mut BeaconRun,
         arrival: Arrival,
     ) -> Result<(), AllocError>
-        ensures { run.new.net.network ≡ run.old.net.network }
+        ensures network { run.new.net.network ≡ run.old.net.network }
+        ensures second { run.new.second ≡ run.old.second }
     {
         let (beacon, place) = (arrival.beacon, arrival.place);
         let Some(ia) = self.ases.get(place).copied() else {
@@ -120,7 +121,8 @@ impl<'a> OriginBeacons<'a> {
 
     /// Begins a beacon by this way out of the origin.
     fn begin(&mut self, alloc: Global, run: &mut BeaconRun, way: WayOut) -> Result<(), AllocError>
-        ensures { run.new.net.network ≡ run.old.net.network }
+        ensures network { run.new.net.network ≡ run.old.net.network }
+        ensures second { run.new.second ≡ run.old.second }
     {
         let Some(ia) = self.ases.get(self.origin).copied() else {
             return Ok(());
@@ -145,7 +147,8 @@ impl<'a> OriginBeacons<'a> {
         number: usize,
         way: WayOut,
     ) -> Result<(), AllocError>
-        ensures { run.new.net.network ≡ run.old.net.network }
+        ensures network { run.new.net.network ≡ run.old.net.network }
+        ensures second { run.new.second ≡ run.old.second }
     {
         let Some(old) = self.arrivals.get(number).copied() else {
             return Ok(());
@@ -180,7 +183,8 @@ fn spread_from(
     origin: usize,
     limits: Limits,
 ) -> Result<(), AllocError>
-    ensures { run.new.net.network ≡ run.old.net.network }
+    ensures network { run.new.net.network ≡ run.old.net.network }
+    ensures second { run.new.second ≡ run.old.second }
 {
     let mut beacons = OriginBeacons::new(alloc, ases, origin, limits)?;
     for way in ways.out_of(origin) {
@@ -238,7 +242,8 @@ impl SearchGraph {
         run: &mut BeaconRun,
         options: &BeaconingOptions,
     ) -> Result<(), AllocError>
-        ensures { run.new.net.network ≡ run.old.net.network }
+        ensures network { run.new.net.network ≡ run.old.net.network }
+        ensures second { run.new.second ≡ run.old.second }
     {
         let per_pair = options.per_pair;
         let long = Limits {

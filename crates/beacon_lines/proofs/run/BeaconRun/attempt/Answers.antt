@@ -23,13 +23,13 @@ invariant_of-self-2 c =
     ∙ ap (λ b. cond b (c.try_reserve.new.self.items ++ c.args.event.now ∷ []) c.try_reserve.new.self.items) ok
     ∙ ap (λ all. all ++ c.args.event.now ∷ []) c.try_reserve.ensures.items in
     let items = ap (map network_event) pushed ∙ map-append network_event old.events.items (c.args.event.now ∷ []) in
-    subst (λ es. IsBeaconing c.happen.new.net.network es c.happen.new.net) (sym items)
-    (next old.net c.happen.new.net (map network_event old.events.items) event done.0 c.self.invariant
+    subst (λ es. IsBeaconing c.happen.new.net.network old.second es c.happen.new.net) (sym items)
+    (next old.net c.happen.new.net old.second (map network_event old.events.items) event done.0 c.self.invariant
     (subst (λ e. Step old.net e done.0 c.happen.new.net) same done.1.1.0)
     (subst (λ e. IsFramed e done.0 c.happen.new.net) same done.1.1.1) is (is_own c.args.event.now))
 
-pub returns : goal.returns
-returns c =
+pub returns-clause-network : goal.returns-clause-network
+returns-clause-network c =
     let done = c.in_ok-effect.ensures.done in
     let event = network_event c.args.event.now in
     let same = image_is event_value c.of_network.result c.in-Some.due event c.in-Some.is c.of_network.ensures in
@@ -49,6 +49,7 @@ invariant_of-self-in_default-2 c =
     let kept : c.happen.new.net ≡ old.net =
     unchanged old.net c.happen.new.net event done.0 (is_own c.args.event.now)
     (subst (λ e. Step old.net e done.0 c.happen.new.net) same done.1.1.0) none in
-    subst (λ (n : NetValue). IsBeaconing n.network (map network_event c.try_reserve.new.self.items) n) (sym kept)
-    (subst (λ es. IsBeaconing old.net.network es old.net) (sym (ap (map network_event) c.try_reserve.ensures.items))
+    subst (λ (n : NetValue). IsBeaconing n.network old.second
+    (map network_event c.try_reserve.new.self.items) n) (sym kept)
+    (subst (λ es. IsBeaconing old.net.network old.second es old.net) (sym (ap (map network_event) c.try_reserve.ensures.items))
     c.self.invariant)
