@@ -27,7 +27,7 @@ fn segment(alloc: Global, macs: [[u8; 6]; 3]) -> Result<Segment, Fail> {
 
 /// The segment that the row's ASes issue at second 1000 with accumulator 4660.
 fn issued_segment(alloc: Global) -> Result<Segment, Fail> {
-    segment(alloc, authenticators(b"a2"))
+    segment(alloc, authenticators())
 }
 
 /// The event that sends a packet from 1-ff00:0:112 to 1-ff00:0:110 by this way.

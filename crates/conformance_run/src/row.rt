@@ -75,11 +75,26 @@ pub(crate) fn row_and_replies(alloc: Global) -> Result<(String, String), Fail> {
     Ok((lines_of(alloc, &tables)?, answers_of(alloc, &tables)?))
 }
 
-/// The authenticators of the row's segment, the last of them under this key.
-pub(crate) fn authenticators(last_key: &[u8; 2]) -> [[u8; 6]; 3] {
+/// The authenticators of the row's segment.
+pub(crate) fn authenticators() -> [[u8; 6]; 3] {
     let first = hop_mac(b"a0", 4660, 1000, 63, 0, 1);
     let beta = next_beta(4660, &first);
     let second = hop_mac(b"a1", beta, 1000, 63, 1, 2);
-    let third = hop_mac(last_key, next_beta(beta, &second), 1000, 63, 1, 0);
+    let third = hop_mac(b"a2", next_beta(beta, &second), 1000, 63, 1, 0);
     [first, second, third]
+}
+
+/// The authenticators of its last hop under the key of its AS and under two later ones.
+fn last_authenticators() -> [[u8; 6]; 3] {
+    let [first, second, third] = authenticators();
+    let beta = next_beta(next_beta(4660, &first), &second);
+    let under = |key: &[u8; 2]| hop_mac(key, beta, 1000, 63, 1, 0);
+    [third, under(b"a3"), under(b"a4")]
+}
+
+/// So a packet that is refused after two changes of the key is not taken by chance.
+#[test]
+fn the_authenticators_of_three_keys_differ(rt: HostRuntime) {
+    let [first, second, third] = last_authenticators();
+    assert!(rt; first != second && second != third && first != third);
 }
