@@ -10,7 +10,7 @@ from gate import beaconing, cases, theorem
 from gate.words import reader
 from gate.works import WORKS
 
-NUMBER_WORDS = {"eight": 8, "ten": 10, "thirteen": 13, "sixty": 60, "seventy": 70}
+NUMBER_WORDS = {"eight": 8, "nine": 9, "ten": 10, "thirteen": 13, "sixty": 60, "seventy": 70}
 
 # How far a rounded figure, as 'some 120', may be from what is there.
 NEARLY = 0.1
@@ -65,7 +65,7 @@ ROUNDED: tuple[tuple[str, str, Callable[[], int]], ...] = (
 # Exact figures.
 EXACT: tuple[tuple[str, str, Callable[[], int]], ...] = (
     ("README.md", r"\[(\w+) steps\]\(docs/router\.md\)",
-     lambda: len(re.findall(r"^\| \d+ \|", text_of("docs/router.md"), re.M))),
+     lambda: len(re.findall(r"^\| \d+ \|", text_of("docs/router.md").partition("\n## ")[0], re.M))),
     ("docs/gate.md", r"the (\d+) topologies of", lambda: beaconing.TOPOLOGIES),
     ("crates/path_report/README.md", r"the first (\w+) of the\s+links",
      lambda: limit("path_report", "MAX_RANKED_LINKS")),

@@ -36,9 +36,12 @@ map_insert f xs p x = ap (map f) (put_insert xs p x) ∙ map_put f xs p x ∙ sy
 pub there_at : (walks : List (List WalkHop)) (k : ℕ) (one walk : List WalkHop) → k < length walks
     → one ≡ get_or walks k one → walk_cmp one walk ≡ Equal → Contains walks walk
 there_at walks k one walk within is tie =
-    let same = same_walk one walk tie in
-    (k, within, (
-      subst (λ (w : List WalkHop). get_or walks k w ≡ w) same (sym is)))
+    let same = same_walk one walk tie in (
+      k,
+      within,
+      (
+          subst (λ (w : List WalkHop). get_or walks k w ≡ w) same (sym is)),
+    )
 
 -- ---- inserting
 

@@ -208,11 +208,7 @@ impl<'g, 'a, 's, 'p, A: Allocator + Clone> Gathering<'g, 'a, 's, 'p, A> {
 }
 
 /// Adds a walk to those in order, unless it is among them.
-fn take_in(
-    alloc: Global,
-    walks: &mut Vec<Vec<WalkHop>>,
-    walk: &[WalkHop],
-) -> Result<(), AllocError>
+fn take_in(alloc: Global, walks: &mut Vec<Vec<WalkHop>>, walk: &[WalkHop]) -> Result<(), AllocError>
     requires { InOrder walk_cmp (hops_in walks.old.items) }
     ensures order { OnOk result (InOrder walk_cmp (hops_in walks.new.items)) }
     ensures few { OnOk result

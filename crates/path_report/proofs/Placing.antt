@@ -129,6 +129,6 @@ crossed_within links place walk has meets =
     by (hop ∷ hops) crossed = elim (or_cases (option_map_or (λ (p : ℕ). p == place) (place_left_by links hop) false)
         (list_any (λ (p : ℕ). p == place) (places_crossed links hops))
         (sym (any_behind (λ (p : ℕ). p == place) (place_left_by links hop) (places_crossed links hops)) ∙ crossed)) [
-      | inl here ↦ one hop (place_left_by links hop) refl here
-      | inr later ↦ by hops later
-    ]
+          | inl here ↦ one hop (place_left_by links hop) refl here
+          | inr later ↦ by hops later
+        ]

@@ -64,9 +64,11 @@ module _ (n : Network) (network : IsNetwork n) where
     links_at (place ∷ places) all =
         let one = All-head (IsCrossed walks) place places all in
         let more = links_at places (All-tail (IsCrossed walks) place places all) in
-        let link = crossed_within n.links place one.0 (subst (HasPlaces n.links) one.1.2 (have one.1.0 one.0 one.1.1)) one.2 in
-        (link.0 ∷ more.0, All-cons (Contains n.links) link.0 more.0 (place, link.1, link.2) more.1,
-        ((slice_get-get_or n.links place link.0 link.1 ∙ ap Some link.2), more.2))
+        let link = crossed_within n.links place one.0 (subst (HasPlaces n.links) one.1.2 (have one.1.0 one.0 one.1.1)) one.2 in (
+          link.0 ∷ more.0,
+          All-cons (Contains n.links) link.0 more.0 (place, link.1, link.2) more.1,
+          ((slice_get-get_or n.links place link.0 link.1 ∙ ap Some link.2), more.2),
+        )
 
     pub survived : (count : ℕ) → DoSurvive walks count → IsSurvived n.links (hops_of walks) count
     survived count is = record {

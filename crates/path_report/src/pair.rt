@@ -127,7 +127,9 @@ pub(crate) fn pair_report(
 {
     let (topology, limit) = (net.topology(), usize::from(wanted.limit));
     topology.known();
-    let set = net.store().segments_for(alloc, pair.from, pair.to, net.now())?;
+    let set = net
+        .store()
+        .segments_for(alloc, pair.from, pair.to, net.now())?;
     let walks = walks_between(alloc, &set, pair.from, pair.to, wanted.policy, limit)?;
     let open = open_walks(alloc, topology, &walks)?;
     let is_full = walks.len() == limit;

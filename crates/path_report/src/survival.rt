@@ -24,10 +24,7 @@ fn is_met(walk: &OpenWalk<'_>, lost: &[usize]) -> bool
 }
 
 /// The first walk that crosses none of the links at these places.
-fn first_unmet<'s, 'w>(
-    walks: &'s [OpenWalk<'w>],
-    lost: &[usize],
-) -> Option<&'s OpenWalk<'w>>
+fn first_unmet<'s, 'w>(walks: &'s [OpenWalk<'w>], lost: &[usize]) -> Option<&'s OpenWalk<'w>>
     ensures none { IfNone result (are_met lost.now walks.now ≡ true) }
     ensures some { IfSome result (λ walk. Contains walks.now walk.now) }
     ensures unmet { IfSome result (λ walk. is_met lost.now walk.now ≡ false) }
@@ -78,10 +75,7 @@ fn can_cut(
 }
 
 /// The most links, up to [`MAX_LOST`], whose loss always leaves one of the walks.
-pub(crate) fn losses_survived(
-    alloc: Global,
-    walks: &[OpenWalk<'_>],
-) -> Result<usize, AllocError>
+pub(crate) fn losses_survived(alloc: Global, walks: &[OpenWalk<'_>]) -> Result<usize, AllocError>
     requires { 0 < length walks.now }
     ensures { IfOk result (DoSurvive walks.now) }
 {

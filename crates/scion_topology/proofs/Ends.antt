@@ -344,9 +344,9 @@ place_of_link (first ∷ rest) free (suc place) link is ia number ends =
     let later = or_parts (stands rest first.b) (joins_twice rest) once.1 in
     elim (cases_Bool (has_end first ia number)) [
       | inl here ↦ absurd (elim (ends_stand first rest ia number here (some_ends rest place link ia number is ends)) [
-          | inl at ↦ true≢false (sym at ∙ once.0)
-          | inr at ↦ true≢false (sym at ∙ later.0)
-        ])
+        | inl at ↦ true≢false (sym at ∙ once.0)
+        | inr at ↦ true≢false (sym at ∙ later.0)
+      ])
       | inr other ↦ position-cons (λ l. has_end l ia number) first rest ∙ rw (other, place_of_link rest later.1 place link is ia number ends) (ap Some (omega arith))
     ]
 

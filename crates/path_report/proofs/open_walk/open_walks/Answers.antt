@@ -37,7 +37,7 @@ loop-place-preserved c =
                 (All-push (HasPlaces links) c.loop-place.found.items one c.loop-place.invariant.places c.in_ok-places.ensures);
           })
       | else-are_up_at w ↦ record {
-          walks = search (rules, next, opens);
-          places = search (rules);
-        }
+        walks = search (rules, next, opens);
+        places = search (rules);
+      }
     ]
