@@ -158,13 +158,14 @@ def lists(up: Counter[str], core: Counter[tuple[str, str]], down: Counter[str], 
 def policy(rng: random.Random, names: Sequence[str]) -> dict[str, Any]:
     """The members of a request that say which paths are allowed."""
     count = rng.choice((2, 8, 16))
-    return rng.choice((
+    members: tuple[dict[str, Any], ...] = (
         {},
         {"acl": ["- " + rng.choice(names), "+"]},
         {"sequence": rng.choice(("0*", "0* 1-9999 0*", "(0|1-1)* 0*"))},
         {"options": [{"weight": it, "acl": ["- " + rng.choice(names), "+"]} for it in range(count)]},
         {"options": [{"weight": it, "sequence": "1-9999 0*"} for it in range(count)]},
-    ))
+    )
+    return rng.choice(members)
 
 
 def drawn(seed: int) -> Request:
@@ -230,7 +231,7 @@ def main(words: Sequence[str]) -> int:
     asked = words_of.parse_args(words)
     until = time.monotonic() + asked.seconds if asked.seconds else None
     speed = LOOP_SECONDS / min(loop() for _ in range(TIMES))
-    rows = []
+    rows: list[tuple[float, float, str]] = []
     with tempfile.TemporaryDirectory() as name, concurrent.futures.ProcessPoolExecutor() as pool:
         given = seeds(asked.seed, until)
         while batch := [*itertools.islice(given, 8 * (os.cpu_count() or 1))]:
