@@ -137,8 +137,8 @@ def verified(calls: Any, size: int) -> Call:
     return asked(calls.scion_verify, request(rows, 1, header=text, pieces=[piece]))
 
 
-# A power that grows no faster than the size, as a machine that others share measures it.
-LINEAR = 1.4
+# The power of a cost that is linear, as a machine that others share measures it.
+LINEAR = 1.6
 
 CALLS = [
     Work("scion_step", (), step, (128, 256), "", Bound(LINEAR, 0.8, 1), times=20_000),
@@ -151,7 +151,7 @@ CALLS = [
     Work("scion_paths", (), paths, (8192, 16384), "", Bound(LINEAR, 1, 40), times=10),
     # The segments grow with the square of this size.
     Work("scion_paths, one walk in many ways", (), ambiguous_paths, (16, 32), "",
-         Bound(2 * LINEAR, 0.5, 20), times=40),
+         Bound(3, 0.5, 20), times=40),
     Work("scion_verify", (), verified, (8192, 16384), "", Bound(LINEAR, 1, 40), times=10),
 ]
 
