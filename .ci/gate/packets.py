@@ -1,11 +1,11 @@
 """Holds the calls for whole packets to a second reader of them.
 
-First the turns of `cases/packets/turns.tsv` are made by a shared object. Then packets are changed at random and given to `scion_whole_packet_read`, and to the
-reader below, which was written from the layout of docs/router.md alone: both have to say the same,
-or refuse the packet for the same reason. What was read has to be written as the same bytes; the
-reply has to be the one that the layout says; and a turn has to be that of the packet's frame, with
-all other bytes as before. The last line has the numbers; the status is 1 where something
-differs."""
+First the turns of `cases/packets/turns.tsv` are made by a shared object. Then packets are changed at
+random and given to `scion_whole_packet_read`, and to the reader below, which was written from the
+layout of docs/router.md alone: both have to say the same, or refuse the packet for the same reason.
+What was read has to be written as the same bytes; the reply has to be the one that the layout says;
+and a turn has to be that of the packet's frame, with all other bytes as before. The last line has
+the numbers; the status is 1 where something differs."""
 import random
 from collections.abc import Sequence
 

@@ -69,7 +69,7 @@ class Network:
             yield [networks.read_walk(text) for text in reply.split("; ")[1:]]
 
     def segments(self):
-        """The segments that the lines register, as `answers.py` has them, without authenticators."""
+        """The segments that the lines register, as `answers.py` has them; no authenticators."""
         beacons, kinds = [], {it.ends: it.kind for it in self.topology.links}
         for line in map(json.loads, self.lines[1:]):
             if line["do"] == "originate":

@@ -102,7 +102,7 @@ class Drawn:
         return range(self.rng.choice((1, 1, 2, 4, 8, 16)))
 
     def below(self, tops: Sequence[int], rows: list[list[int]]) -> Iterator[Chain]:
-        """The chains of links from these core ASes through rows of ASes to the first of the last."""
+        """The chains of links from these core ASes to the first AS of the last of these rows."""
         ways: dict[int, list[Chain]] = {top: [()] for top in tops}
         for row in rows:
             here: dict[int, list[Chain]] = {one: [] for one in row}
@@ -157,13 +157,13 @@ def lists(up: Counter[str], core: Counter[tuple[str, str]], down: Counter[str], 
 
 def policy(rng: random.Random, names: Sequence[str]) -> dict[str, Any]:
     """The members of a request that say which paths are allowed."""
-    count = rng.choice((2, 8, 16))
+    weights = range(rng.choice((2, 8, 16)))
     members: tuple[dict[str, Any], ...] = (
         {},
         {"acl": ["- " + rng.choice(names), "+"]},
         {"sequence": rng.choice(("0*", "0* 1-9999 0*", "(0|1-1)* 0*"))},
-        {"options": [{"weight": it, "acl": ["- " + rng.choice(names), "+"]} for it in range(count)]},
-        {"options": [{"weight": it, "sequence": "1-9999 0*"} for it in range(count)]},
+        {"options": [{"weight": it, "acl": ["- " + rng.choice(names), "+"]} for it in weights]},
+        {"options": [{"weight": it, "sequence": "1-9999 0*"} for it in weights]},
     )
     return rng.choice(members)
 
