@@ -84,8 +84,7 @@ class Gate:
         program = self.path(f"packets-by-{name}")
         source = os.path.join(BINDINGS, "c", "packets.c")
         build.link_program(compiler, build.ROUTER, source, program, ("-std=c11", *STRICT))
-        with open(PACKETS, "rb") as it:
-            self.run(f"whole packets by {name}", [program], stdin=it)
+        self.run(f"whole packets by {name}", [program], (TOP / PACKETS).read_bytes())
 
     def routers(self, name, compiler):
         """The routers of a network as processes: examples/udp, which ends well if a packet crosses
