@@ -114,9 +114,9 @@ NETWORKS = [
          Bound(1.6, 1, 40), is_beaconed=True),
     # The paths between two of these ASes double with each layer: 34 times as many in all.
     Work("a report of all pairs, layers", view("report"), families.layers, (32, 64),
-         "1-64 1-63 paths ", Bound(6, 2.4, 20), is_beaconed=True),
+         "1-64 1-63 paths ", Bound(6.5, 4, 20), is_beaconed=True),
     Work("a report of the paths to one AS", view("report", "--to", "1-8"), families.layers,
-         (256, 512), " pairs 8", Bound(2.2, 1.2, 40), is_beaconed=True),
+         (256, 512), " pairs 8", Bound(2.8, 2.4, 40), is_beaconed=True),
     Work("a picture", view("network"), families.core_mesh, (512, 1024), "labeljust=c",
          Bound(1.5, 1.6, 20), times=10),
     Work("a picture of a packet's path", view("network", "--packet", "0"), families.packets,
