@@ -17,6 +17,7 @@ import shutil
 import sys
 import tempfile
 from collections.abc import Sequence
+from typing import Any
 
 from gate import TOP, children, host_numbers
 from gate.hosts import build
@@ -43,13 +44,17 @@ BLOCK = re.compile(r"^<!-- run: ([^\n]*) -->\n```\n(.*?)^```$", re.M | re.S)
 CHILD = re.compile(r"^## A whole network$.*?^```\n(import .*?)^```$", re.M | re.S)
 
 
+# What compiles C: the words before the files, and those behind them.
+Compiler = tuple[list[str], list[str]]
+
+
 class Gate:
     """What was run so far, and whether all of it ended well."""
 
-    def __init__(self, room, machine):
+    def __init__(self, room: str, machine: Machine) -> None:
         self.room, self.is_well, self.count, self.machine = room, True, 0, machine
 
-    def run(self, what, words, given=b"", **how):
+    def run(self, what: str, words: list[str], given: bytes = b"", **how: Any) -> bool:
         """Runs a command, whose last line is told, and all of them if its status is not 0."""
         done = children.run(words, given, SECONDS, is_merged=True, **how)
         lines = done.stdout.decode(errors="replace").strip().splitlines()
@@ -59,10 +64,10 @@ class Gate:
         self.is_well = self.is_well and done.returncode == 0
         return done.returncode == 0
 
-    def path(self, name):
+    def path(self, name: str) -> str:
         return os.path.join(self.room, name)
 
-    def tour_in_c(self, number, compiler):
+    def tour_in_c(self, number: int, compiler: Compiler) -> None:
         """The tours by one compiler for C: in C, and in Python over the shared object."""
         name = f"{os.path.basename(compiler[0][0])}-{number}"
         program, shared = self.path(f"tour-by-{name}"), self.path(f"libscion-{name}.so")
@@ -79,14 +84,14 @@ class Gate:
         self.run(f"growth of calls over {name}", [*GATE, "calls_growth", shared])
         self.routers(name, compiler)
 
-    def packets_in_c(self, name, compiler):
+    def packets_in_c(self, name: str, compiler: Compiler) -> None:
         """Whole packets by one compiler for C."""
         program = self.path(f"packets-by-{name}")
         source = os.path.join(BINDINGS, "c", "packets.c")
         build.link_program(compiler, build.ROUTER, source, program, ("-std=c11", *STRICT))
         self.run(f"whole packets by {name}", [program], (TOP / PACKETS).read_bytes())
 
-    def routers(self, name, compiler):
+    def routers(self, name: str, compiler: Compiler) -> None:
         """The routers of a network as processes: examples/udp, which ends well if a packet crosses
         them and a changed one is refused."""
         program = self.path(f"router-by-{name}")
@@ -98,7 +103,7 @@ class Gate:
             given = (TOP / "examples" / f"{network}.txt").read_bytes()
             self.run(f"200 packets over {network} by {name}", [*GATE, "udp", program], given)
 
-    def tour_in_cxx(self):
+    def tour_in_cxx(self) -> None:
         if self.machine.has(CXX):
             program, source = self.path("tour-by-c++"), os.path.join(BINDINGS, "c", "tour.c")
             words = [CXX, "-std=c++17", *STRICT, "-Iinclude", "-x", "c++", source, "-x", "none"]
@@ -106,7 +111,7 @@ class Gate:
             if self.run("c++", [*words, *parts, "-o", program]):
                 self.run("tour by c++", [program])
 
-    def package_in_python(self):
+    def package_in_python(self) -> None:
         """The tour over the package, as pip installs it into an environment of its own."""
         if not self.machine.has_modules("venv", "ensurepip"):
             return
@@ -117,14 +122,14 @@ class Gate:
             tour = shutil.copy(os.path.join(BINDINGS, "python", "tour.py"), folder)
             self.run("Python's package", [python, "-B", tour])
 
-    def crate_in_rust(self):
+    def crate_in_rust(self) -> None:
         if self.machine.has("cargo"):
             words = ["cargo", "test", "--offline", "--locked", "-q", "--features", "paths"]
-            how = {"cwd": os.path.join(BINDINGS, "rust")}
+            how: dict[str, Any] = {"cwd": os.path.join(BINDINGS, "rust")}
             how["env"] = {**os.environ, "CARGO_TARGET_DIR": self.path("target")}
             self.run("cargo", words, **how)
 
-    def module_in_javascript(self):
+    def module_in_javascript(self) -> None:
         if self.machine.has("node"):
             module = os.path.join(build.OUT, "scion.wasm")
             build.build_wasm(module)
@@ -132,22 +137,22 @@ class Gate:
             self.run("node", [*NODE, tour, module])
             self.run("whole packets by node", [*NODE, packets, module, PACKETS])
 
-    def documented(self):
+    def documented(self) -> None:
         """The commands of the page that link, and its program that runs a network."""
         with open(PAGE, encoding="utf-8") as it:
             text = it.read()
-        blocks = BLOCK.findall(text)
-        if not blocks or not CHILD.search(text):
+        blocks, child = BLOCK.findall(text), CHILD.search(text)
+        if not blocks or not child:
             sys.exit(f"bindings: {PAGE} has no commands that could be run")
         for tools, script in blocks:
             if self.machine.has(*tools.split()):
                 self.run(PAGE, ["sh", "-e", "-c", script])
         if os.path.exists("crates/scionet/out/scionet"):
-            self.child(CHILD.search(text)[1])
+            self.child(child[1])
         else:
             print("bindings: scionet is not built, and the program that runs it is left out")
 
-    def child(self, program):
+    def child(self, program: str) -> None:
         """The program prints what `scionet run` does, also if the last line has no end."""
         path = self.path("events.txt")
         with open("examples/row.txt", "rb") as it, open(path, "wb") as copy:

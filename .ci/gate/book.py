@@ -3,11 +3,12 @@ rest by crate, and then how the headline is a clause of the calls that run netwo
 docs/book.md."""
 import re
 import sys
-from collections.abc import Sequence
+from collections.abc import Iterator, Sequence
 from pathlib import Path
+from typing import Any
 
 from gate.pages import filled, settle
-from gate.specs import WORD, Specs
+from gate.specs import WORD, Definition, Module, Specs
 
 MOST_IN_FIRST_HOUR = 350
 ROOT = "network_core/Ran.Ran"
@@ -165,19 +166,23 @@ CALLS = (
 )
 
 
+# The crates of a part: the name of one, its types, and its files with their definitions.
+Page = tuple[str, list[Definition], list[tuple[Module, list[Definition]]]]
+
+
 class Book:
     """The definitions of the three parts, and the text."""
 
-    def __init__(self, top):
+    def __init__(self, top: Path) -> None:
         self.specs = Specs(top)
         places = " ".join(text for _, text in FIRST_HOUR).split()
-        self.first = [self.named(it) for it in places]
+        self.first = [self.specs.definition(it) for it in places]
         self.calls = [
             self.specs.item(crate, file, name)
             for crate, file, names in CALLS
             for name in names.split()
         ]
-        theorem = self.specs.closure([self.named(ROOT)])
+        theorem = self.specs.closure([self.specs.definition(ROOT)])
         everything = self.specs.closure([*theorem, *self.first, *self.calls])
         own = {it.key for it in [*self.first, *theorem]}
         taken = {it.key for it in [*self.first, *self.calls]}
@@ -191,17 +196,11 @@ class Book:
         self.types = {it.key[2]: it for it in self.printed if it.variants or not it.key[1]}
         self.shared, self.paired = self.shared_constructors()
 
-    def named(self, place):
-        """The definition at this place, without which there is no book."""
-        found = self.specs.named(place)
-        if found is None:
-            sys.exit(f"{place} is gone: .ci/gate/book.py names it")
-        return found
-
-    def shared_constructors(self):
+    def shared_constructors(self) -> tuple[set[str], set[str]]:
         """The constructors that several types have, where a type of the code and its value are
         one; and the names of such pairs of types."""
-        types, pairs = {}, {}
+        types: dict[str, set[tuple[str, str]]] = {}
+        pairs: dict[tuple[str, str], set[str]] = {}
         for it in self.printed:
             stem = it.key[0], it.key[2].removesuffix("Value")
             if it.variants:
@@ -211,7 +210,7 @@ class Book:
         shared = {name for name, own in types.items() if len(own) > 1 or name in self.library}
         return shared, {name for own in pairs.values() if len(own) > 1 for name in own}
 
-    def shown(self, one, word):
+    def shown(self, one: Definition, word: str) -> str:
         """A word of a definition as it is printed: some constructors with their type."""
         found = self.specs.constructor(one, word)
         if found is None:
@@ -220,7 +219,7 @@ class Book:
         of_pair = "." in word and type_name in self.paired
         return f"{type_name}.{name}" if of_pair or name in self.shared else name
 
-    def text_of(self, one):
+    def text_of(self, one: Definition) -> list[str]:
         """The lines of a definition as they are printed."""
         if one.is_data or not one.key[1]:
             return [*one.comment, *one.lines]
@@ -231,23 +230,24 @@ class Book:
             lines.append(said + mark + comment)
         return [*one.comment, *lines]
 
-    def word_in(self, one, word):
+    def word_in(self, one: Definition, word: str) -> str:
         """A word with its fields, as it is printed."""
         first, dot, rest = word.partition(".")
         if first in one.names.aliases and dot:
             return self.shown(one, word)
         return self.shown(one, first) + dot + rest
 
-    def cited(self, one):
+    def cited(self, one: Definition) -> list[tuple[str, Definition]]:
         """What a definition cites, by the word: in a type of the code, the other types."""
         if one.key[1] or one.names.imported:
             return self.specs.cited(one)
         words = re.findall(r"[(:<&,\[] *(\w+)", one.said)
         return [(it, self.types[it]) for it in words if it in self.types and it != one.key[2]]
 
-    def links(self, group):
+    def links(self, group: Sequence[Definition]) -> str:
         """The words that these definitions cite, each a link to where it is defined."""
-        found, own = {}, {it.anchor for it in group}
+        found: dict[str, dict[str, None]] = {}
+        own = {it.anchor for it in group}
         for one in group:
             for word, it in self.cited(one):
                 words = found.setdefault(it.anchor, {})
@@ -255,7 +255,7 @@ class Book:
         pairs = [(" ".join(words), it) for it, words in found.items() if it not in own]
         return ", ".join(f"[{words}](#{anchor})" for words, anchor in pairs)
 
-    def entry(self, *group):
+    def entry(self, *group: Definition) -> Iterator[str]:
         """Definitions that stand together, with their anchors and their links."""
         anchors = "".join(f'<a id="{it.anchor}"></a>' for it in group)
         names = ", ".join(f"`{it.key[2].replace('◌', '')}`" for it in group)
@@ -266,19 +266,19 @@ class Book:
         yield "\n\n".join("\n".join(self.text_of(it)) for it in group)
         yield "```\n"
 
-    def first_hour(self):
+    def first_hour(self) -> Iterator[str]:
         yield "## Part 0: the first hour\n"
         for words, places in FIRST_HOUR:
             yield filled(words) + "\n"
             for place in places.split():
-                yield from self.entry(self.named(place))
+                yield from self.entry(self.specs.definition(place))
 
-    def files(self, crate, part):
+    def files(self, crate: str, part: list[Definition]) -> list[str]:
         """The files of a crate that have definitions of this part, each behind those that it
         cites."""
         done, own = [], [it for it in part if it.key[0] == crate and it.key[1]]
 
-        def visit(name):
+        def visit(name: str) -> None:
             if name in done:
                 return
             for one in (it for it in own if it.key[1] == name):
@@ -291,7 +291,7 @@ class Book:
             visit(one.key[1])
         return done
 
-    def pages(self, part):
+    def pages(self, part: list[Definition]) -> Iterator[Page]:
         """The crates of a part, lowest first, each with its types and its files of definitions."""
         keys = {it.key for it in part}
         for crate in self.specs.crates({it.key[0] for it in part}):
@@ -300,7 +300,7 @@ class Book:
             files = [(it, [one for one in it.all if one.key in keys]) for it in modules]
             yield crate, sorted(items, key=lambda it: it.key), files
 
-    def chapter(self, part):
+    def chapter(self, part: list[Definition]) -> Iterator[str]:
         """A part, crate by crate."""
         for crate, items, files in self.pages(part):
             yield f"### `{crate}`\n"
@@ -314,12 +314,12 @@ class Book:
                 for group in together(module, own):
                     yield from self.entry(*group)
 
-    def contracts(self):
+    def contracts(self) -> Iterator[str]:
         """The calls that run networks, as they stand in the code."""
         for one in self.calls:
             yield from self.entry(one)
 
-    def cited_too_early(self):
+    def cited_too_early(self) -> Iterator[tuple[str, str, str]]:
         """The definitions of parts 1 and 2 that stand behind one that cites them."""
         read = {it.key for it in self.first}
         for part in self.parts[1:]:
@@ -330,17 +330,17 @@ class Book:
                     cited = [it for _, it in self.specs.cited(one)]
                     yield from (it.key for it in cited if it.key not in read)
 
-    def table(self):
+    def table(self) -> Iterator[str]:
         """How many definitions each part has, and how many lines they have."""
         yield "| part | definitions | lines | with comments |\n|---|---|---|---|"
         named = [[it for it in part if it.key[1]] for part in self.parts]
-        for name, part in [*zip("012", named), ("all", sum(named, []))]:
+        for name, part in [*zip("012", named), ("all", [it for part in named for it in part])]:
             lines = sum(len(it.lines) for it in part)
             comments = sum(len(it.comment) for it in part)
             yield f"| {name} | {len(part)} | {lines} | {lines + comments} |"
         yield ""
 
-    def words(self):
+    def words(self) -> Iterator[str]:
         """The table of the library's words."""
         yield "| words | meaning |\n|---|---|"
         for words, meaning in LIBRARY:
@@ -348,13 +348,13 @@ class Book:
             yield f"| {signs} | {meaning} |"
         yield ""
 
-    def unexplained(self):
+    def unexplained(self) -> list[str]:
         """The words of the library that the table lacks."""
         known = " ".join(words for words, _ in LIBRARY).split()
         used = {sign for word in self.library for sign in word.replace("◌", " ").split()}
         return sorted(used - {*known})
 
-    def text(self):
+    def text(self) -> str:
         first = "\n".join(self.first_hour())
         if (count := len(first.splitlines())) > MOST_IN_FIRST_HOUR:
             sys.exit(f"part 0 of the book has {count} lines, more than {MOST_IN_FIRST_HOUR}")
@@ -363,9 +363,9 @@ class Book:
         return "\n".join(parts)
 
 
-def together(module, own):
+def together(module: Module, own: list[Definition]) -> list[list[Definition]]:
     """These definitions of a file, each with those behind it that have no comment of their own."""
-    groups = []
+    groups: list[list[Definition]] = []
     for one in own:
         before = module.all[module.all.index(one) - 1]
         if groups and not one.comment and groups[-1][-1] is before:

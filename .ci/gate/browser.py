@@ -1,4 +1,6 @@
 """A browser without a window: Debian's `chromium`, driven by its own protocol over two pipes."""
+from __future__ import annotations
+
 import base64
 import json
 import os
@@ -6,6 +8,8 @@ import select
 import subprocess
 import tempfile
 import time
+from pathlib import Path
+from typing import Any
 
 SECONDS = 60
 WIDTH, HEIGHT = 1400, 1700
@@ -14,7 +18,7 @@ WIDTH, HEIGHT = 1400, 1700
 class Browser:
     """The browser, with a profile of its own that is gone when it ends."""
 
-    def __init__(self):
+    def __init__(self) -> None:
         self.folder = tempfile.TemporaryDirectory()
         taken, self.input = os.pipe()
         self.output, given = os.pipe()
@@ -28,9 +32,10 @@ class Browser:
             pass_fds=(taken, given), stdout=subprocess.DEVNULL, stderr=subprocess.DEVNULL)
         os.close(taken)
         os.close(given)
-        self.number, self.read, self.events = 0, b"", []
+        self.number, self.read = 0, b""
+        self.events: list[Any] = []
 
-    def message(self):
+    def message(self) -> Any:
         """The next message that the browser writes."""
         end = time.monotonic() + SECONDS
         while b"\0" not in self.read:
@@ -44,7 +49,7 @@ class Browser:
         text, _, self.read = self.read.partition(b"\0")
         return json.loads(text)
 
-    def call(self, method, session=None, **members):
+    def call(self, method: str, session: str | None = None, **members: Any) -> Any:
         """The result of a command."""
         self.number += 1
         command = {"id": self.number, "method": method, "params": members}
@@ -57,16 +62,16 @@ class Browser:
             raise RuntimeError(f"{method}: {answer['error']['message']}")
         return answer["result"]
 
-    def wait_for(self, event, session):
+    def wait_for(self, event: str, session: str | None) -> None:
         """Waits for an event in a tab."""
         while not any(it.get("method") == event and it.get("sessionId") == session
                       for it in self.events):
             self.events.append(self.message())
 
-    def tab(self, address):
+    def tab(self, address: str) -> Tab:
         return Tab(self, address)
 
-    def stop(self):
+    def stop(self) -> None:
         self.call("Browser.close")
         self.process.wait(SECONDS)
         self.folder.cleanup()
@@ -75,7 +80,7 @@ class Browser:
 class Tab:
     """A tab of the browser that shows a page."""
 
-    def __init__(self, browser, address):
+    def __init__(self, browser: Browser, address: str) -> None:
         self.browser = browser
         target = browser.call("Target.createTarget", url="about:blank")["targetId"]
         found = browser.call("Target.attachToTarget", targetId=target, flatten=True)
@@ -83,10 +88,10 @@ class Tab:
         self.call("Page.enable")
         self.load("Page.navigate", url=address)
 
-    def call(self, method, **members):
+    def call(self, method: str, **members: Any) -> Any:
         return self.browser.call(method, self.session, **members)
 
-    def value(self, script):
+    def value(self, script: str) -> Any:
         """What a script in the page comes to, after it is waited for."""
         found = self.call(
             "Runtime.evaluate", expression=script, awaitPromise=True, returnByValue=True)
@@ -94,20 +99,20 @@ class Tab:
             raise RuntimeError(found["exceptionDetails"]["exception"]["description"])
         return found["result"].get("value")
 
-    def show(self):
+    def show(self) -> None:
         """Puts the tab in front of the others: what is behind does not move."""
         self.call("Page.bringToFront")
 
-    def load(self, method, **members):
+    def load(self, method: str, **members: Any) -> None:
         """Loads a page, and waits until it is there."""
         self.browser.events.clear()
         self.call(method, **members)
         self.browser.wait_for("Page.loadEventFired", self.session)
 
-    def reload(self):
+    def reload(self) -> None:
         self.load("Page.reload")
 
-    def picture(self, file):
+    def picture(self, file: Path) -> None:
         """Writes what is shown as a picture."""
         shown = self.call("Page.captureScreenshot", format="png")
         with open(file, "wb") as out:

@@ -4,12 +4,12 @@ comment. This is docs/calls.md."""
 import math
 import re
 import sys
-from collections.abc import Sequence
+from collections.abc import Iterator, Sequence
 from pathlib import Path
 
 from gate.pages import filled, settle
 from gate.specs import Specs
-from gate.surface import LAWS, Surface
+from gate.surface import LAWS, Clause, Item, Surface
 
 FRONT = """# What a crate offers to the crates above it
 
@@ -39,7 +39,7 @@ TESTS = re.compile(r"conformance_")
 CONSTANT = re.compile(r"pub const \w+: (?:usize|u\d+) = (.*);")
 
 
-def value(term, terms):
+def value(term: str, terms: dict[str, str]) -> int:
     """The value of a number, or of a sum of products of numbers and other constants."""
     if " + " in term or " * " in term:
         products = [it.split(" * ") for it in term.split(" + ")]
@@ -47,20 +47,21 @@ def value(term, terms):
     return value(terms[term], terms) if term in terms else int(term.replace("_", ""))
 
 
-def limits(surfaces):
+def limits(surfaces: list[Surface]) -> Iterator[str]:
     """The rows of the constants that are numbers."""
     every = [it for surface in surfaces for it in surface.constants]
     found = {it: CONSTANT.match(it.declared) for it in every}
-    terms = {}
-    for it in filter(found.get, every):
-        if terms.setdefault(it.name, found[it][1]) != found[it][1]:
+    terms: dict[str, str] = {}
+    numbers = [(it, match[1]) for it, match in found.items() if match]
+    for it, term in numbers:
+        if terms.setdefault(it.name, term) != term:
             sys.exit(f"two constants have the name {it.name}, and not one value")
-    for it in filter(found.get, every):
-        number = value(terms[it.name], terms)
+    for it, term in numbers:
+        number = value(term, terms)
         yield f"| `{it.file.crate}::{it.place}` | {number:,} | {it.sentence} |"
 
 
-def types(surface):
+def types(surface: Surface) -> Iterator[str]:
     """The table of a crate's types."""
     if surface.types:
         yield "| type | what it is |\n|---|---|"
@@ -72,14 +73,14 @@ def types(surface):
         yield filled(f"{', '.join(f'`{it}`' for it in names)}: those of `{of}`.") + "\n"
 
 
-def named(clauses):
+def named(clauses: list[Clause]) -> Iterator[str]:
     """The names of some clauses, with their comments; those without a name count as one."""
     for it in clauses:
         name = f"`{it.name}`" if it.name else "one"
         yield f"{name} ({it.comment.rstrip('.')})" if it.comment else name
 
 
-def promises(item, specs):
+def promises(item: Item, specs: Specs) -> Iterator[str]:
     """The clauses of a call and what they cite, in a sentence each."""
     public = [it for it in item.cited(specs) if not it.key[1].startswith("inner")]
     cited = [f"[`{it.key[2].replace('◌', '')}`](definitions.md#{it.anchor})" for it in public]
@@ -93,16 +94,18 @@ def promises(item, specs):
         yield f"Cites {', '.join(cited)}."
 
 
-def lemmas(crate, law):
+def lemmas(crate: str, law: str) -> Iterator[str]:
     """The lemmas that the proof of a law cites, as they are named within `proofs/`."""
     for path in sorted(Path("crates", crate, "proofs", "laws", law).glob("*.antt")):
         for line in path.read_text().split("\n"):
             found = re.match(rf"use Rattle\.{crate}\.proofs\.(?!laws\.)([\w.]+)\.\{{(.*)\}}", line)
-            for name in found[2].split(",") if found else ():
+            if found is None:
+                continue
+            for name in found[2].split(","):
                 yield f"`{found[1]}.{name.split(' as ')[0].strip()}`"
 
 
-def call(item, specs):
+def call(item: Item, specs: Specs) -> str:
     """The entry of a call or of a law."""
     is_law = item.file.path == LAWS
     declared = item.declared.partition("fn ")[2].removeprefix(item.name)
@@ -113,7 +116,7 @@ def call(item, specs):
     return filled(" ".join(filter(None, parts)), "- ")
 
 
-def chapter(surface, specs):
+def chapter(surface: Surface, specs: Specs) -> Iterator[str]:
     """What one crate offers."""
     yield f"\n## `{surface.crate}`\n"
     yield filled(surface.sentence) + "\n"
@@ -126,7 +129,7 @@ def chapter(surface, specs):
         yield from (call(it, specs) for it in laws)
 
 
-def document():
+def document() -> Iterator[str]:
     """The whole text."""
     specs = Specs(Path("."))
     libraries = [it for it in specs.needs if Path("crates", it, "src/lib.rt").exists()]

@@ -1,10 +1,11 @@
 """Prints the definitions of `specs/`, by crate and file, each with its comment; a reader has to
 believe these and the contracts that cite them. This is docs/definitions.md."""
-from collections.abc import Sequence
+from collections.abc import Iterator, Sequence
 from pathlib import Path
 
 from gate.book import Book
 from gate.pages import filled, settle
+from gate.specs import Definition, Module
 
 FRONT = """# Definitions
 
@@ -24,14 +25,14 @@ date.
 """
 
 
-def comment(one):
+def comment(one: Definition) -> str:
     """The comment of a definition as one line."""
     text = " ".join(it.strip().removeprefix("--").strip() for it in one.comment
                     if it.startswith("--"))
     return text.replace("|", "\\|")
 
 
-def name(one, printed):
+def name(one: Definition, printed: set[tuple[str, str, str]]) -> str:
     """The name of a definition, with its anchor, and a link to where the book prints it."""
     shown = f"`{one.applied}`"
     if one.key in printed:
@@ -39,9 +40,9 @@ def name(one, printed):
     return f'<a id="{one.anchor}"></a>{shown}'
 
 
-def rows(module, printed):
+def rows(module: Module, printed: set[tuple[str, str, str]]) -> Iterator[str]:
     """The rows of a file: definitions without a comment stand with the one before."""
-    groups = []
+    groups: list[list[Definition]] = []
     for one in module.all:
         if groups and not comment(one):
             groups[-1].append(one)
@@ -51,12 +52,12 @@ def rows(module, printed):
         yield f"| {', '.join(name(it, printed) for it in group)} | {comment(group[0])} |"
 
 
-def head(module):
+def head(module: Module) -> str:
     """The comment of a file."""
     return filled(" ".join(it.removeprefix("--").strip() for it in module.head))
 
 
-def document():
+def document() -> Iterator[str]:
     """The whole text."""
     book = Book(Path("."))
     specs, printed = book.specs, {it.key for it in book.printed}

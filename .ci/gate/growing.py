@@ -7,7 +7,7 @@ from collections.abc import Callable, Iterable, Sequence
 from typing import Any
 
 # Seconds from which an exponent is read; and from which part of a bound on a work is near it.
-LEAST, NEAR, NEAR_EXPONENT = 0.02, 0.8, 0.1
+LEAST, NEAR, NEAR_EXPONENT = 0.01, 0.8, 0.1
 
 # The rounds of the loop that seconds are held to, and its seconds on the machine of the bounds.
 ROUNDS, LOOP_SECONDS = 100_000, 0.065

@@ -33,9 +33,9 @@ from gate.growing import (
 from gate.words import reader
 from gate.works import ALONE, WORKS
 
-# How often a work is measured at most; the seconds after which a run is ended; those between two
-# looks at its memory; and the bytes of a line that are looked at.
-TIMES, LONGEST, LOOK, SHOWN = 3, 60, 0.002, 200
+# How often a work is measured at most, and how often again by itself; the seconds after which a run
+# is ended; those between two looks at its memory; and the bytes of a line that are looked at.
+TIMES, AGAIN, LONGEST, LOOK, SHOWN = 3, 6, 60, 0.002, 200
 
 
 class Programs:
@@ -144,11 +144,15 @@ def all_measured(works: list[Work], programs: Programs) -> list[Measured]:
 
 
 def settled(row: Measured, programs: Programs) -> Measured:
-    """What a work takes, which is measured again if it falls short beside others: by itself."""
-    for _ in range(TIMES):
+    """What a work takes, which is measured again if it falls short beside others: by itself, until
+    one measurement or the best of all falls short nowhere. A machine whose speed changes makes the
+    best of the first size and the best of the last those of different moments."""
+    for _ in range(AGAIN):
         if not any(faults_of(row)):
             break
         again = measured(row.work, programs)
+        if not any(faults_of(again)):
+            return again
         best = tuple(old.best_of(it) for old, it in zip(row.costs, again.costs))
         row = Measured(row.work, best, again.last, row.plain)
     return row

@@ -11,10 +11,11 @@ mean is written by hand."""
 import re
 import sys
 import textwrap
-from collections.abc import Sequence
+from collections.abc import Mapping, Sequence
 from pathlib import Path
 
 from gate import fault_tables, refusals
+from gate.texts import found
 from gate.words import reader
 
 # The refusals of the parts of a router; a topology has more, which no call of a host can meet.
@@ -29,54 +30,54 @@ OF_PACKETS = "PACKET_ROOM_TOO_SMALL"
 RENAMED = {"LINK": "OVER_LINK"}
 
 
-def constant(name):
+def constant(name: str) -> str:
     """The name of a constant: `SOURCE_AS` for `SourceAs`."""
     return re.sub(r"(?<!^)(?=[A-Z])", "_", name).upper()
 
 
-def definition(crate, file, word):
+def definition(crate: str, file: str, word: str) -> str:
     """The equations of a definition."""
     text = Path("crates", crate, "specs", f"{file}.antt").read_text()
-    found = re.search(rf"^(?:abbrev|unfoldable) pub {word} : .*\n((?:.+\n)*)", text, re.M)
-    if found is None:
+    equations = re.search(rf"^(?:abbrev|unfoldable) pub {word} : .*\n((?:.+\n)*)", text, re.M)
+    if equations is None:
         sys.exit(f"numbers: {crate} has no definition {word} in {file}")
-    return found[1]
+    return equations[1]
 
 
-def told(word):
+def told(word: str) -> dict[str, int]:
     """The values of numbers that a host gives, by their names."""
     rows = re.findall(r"number == (\d+) then Some \(?(\w+)", definition("scion_ffi", "Parts", word))
     names = {constant(name): int(number) for number, name in rows}
     return {RENAMED.get(name, name): number for name, number in names.items()}
 
 
-def codes():
+def codes() -> dict[str, int]:
     """All codes of answers."""
     outcomes = definition("scion_ffi", "Answer", "outcome_answer")
     rows = re.findall(r"outcome_answer \(?(\w+).* = answer (\d+) ", outcomes)
-    found = {constant(name): int(number) for name, number in rows}
+    numbers = {constant(name): int(number) for name, number in rows}
     bad_call = definition("scion_ffi", "Answer", "bad_call")
-    found["BAD_CALL"] = int(re.search(r"answer (\d+) 0", bad_call)[1])
+    numbers["BAD_CALL"] = int(found(r"answer (\d+) 0", bad_call)[1])
     parts = fault_tables.numbers_of("scion_topology", "TopologyFault")
     headers = fault_tables.numbers_of("path_header", "HeaderFault")
     router = fault_tables.numbers_of("router_step", "Refusal")
     packets = fault_tables.numbers_of("scion_packet", "PacketFault")
-    found[OF_PACKETS], _ = packets[OF_WRITING]
+    numbers[OF_PACKETS], _ = packets[OF_WRITING]
     rows = [parts[name] for name in OF_PARTS]
     rows += [*headers.values(), *router.values(), *packets.values()]
-    return found | {constant(name): number for number, name in rows if name != OF_WRITING}
+    return numbers | {constant(name): number for number, name in rows if name != OF_WRITING}
 
 
-def statuses():
+def statuses() -> dict[str, int]:
     """What happened to an answer in a host's room."""
     equations = definition("scion_ffi_paths", "Room", "IsPut")
-    memory = re.search(r"text_answer (\d+) 0", equations)[1]
-    written, small = re.search(r"then (\d+) else (\d+)\)", equations).groups()
+    memory = found(r"text_answer (\d+) 0", equations)[1]
+    written, small = found(r"then (\d+) else (\d+)\)", equations).groups()
     names = {"WRITTEN": written, "ROOM_TOO_SMALL": small, "OUT_OF_MEMORY": memory}
     return {name: int(number) for name, number in names.items()}
 
 
-def in_c():
+def in_c() -> dict[str, int]:
     """The constants of the header."""
     text = Path("include/scion.h").read_text()
     enums = re.findall(r"^enum \{(.*?)\};", text, re.M | re.S)
@@ -84,14 +85,14 @@ def in_c():
     return {name: int(number) for name, number in rows}
 
 
-def in_rust():
+def in_rust() -> dict[str, int]:
     """The constants of the Rust crate."""
     text = Path("bindings/rust/src/raw.rs").read_text()
     rows = re.findall(r"^pub const SCION_(\w+): u\d+ = (\d+);$", text, re.M)
     return {name: int(number) for name, number in rows}
 
 
-def variants_in_rust():
+def variants_in_rust() -> set[tuple[str, str]]:
     """The constants of the Rust crate and the variants beside which they stand, each pair once."""
     files = sorted(Path("bindings/rust/src").glob("*.rs"))
     text = "".join(it.read_text() for it in files)
@@ -102,17 +103,17 @@ def variants_in_rust():
     return {*pairs}
 
 
-def in_python(name):
+def in_python(name: str) -> dict[str, int]:
     """The members of a class of the Python module."""
     text = Path("bindings/python/scion/__init__.py").read_text()
-    body = re.search(rf"^class {name}\(.*\n((?:    .*\n|\n)+)", text, re.M)[1]
+    body = found(rf"^class {name}\(.*\n((?:    .*\n|\n)+)", text, re.M)[1]
     return {it: int(number) for it, number in re.findall(r"^    (\w+) = (\d+)$", body, re.M)}
 
 
-def in_javascript(name):
+def in_javascript(name: str) -> dict[str, int]:
     """The members of an object of the JavaScript module."""
     text = Path("bindings/js/scion.mjs").read_text()
-    body = re.search(rf"^export const {name} = Object.freeze\(\{{\n(.*?)^\}}", text, re.M | re.S)[1]
+    body = found(rf"^export const {name} = Object.freeze\(\{{\n(.*?)^\}}", text, re.M | re.S)[1]
     return {it: int(number) for it, number in re.findall(r"^  (\w+): (\d+),$", body, re.M)}
 
 
@@ -125,9 +126,10 @@ ROWS = {
 }
 
 
-def with_codes(text, form):
+def with_codes(text: str, form: str) -> str:
     """A file with a row for each code: those that it lacks stand behind the code before them."""
-    lines, place = text.split("\n"), None
+    lines = text.split("\n")
+    place: int | None = None
     for name, number in sorted(codes().items(), key=lambda row: row[1]):
         row = form.format(name=name, number=number)
         stem = row[: row.rindex(str(number))]
@@ -155,11 +157,12 @@ PAGE = "bindings/README.md"
 PAGE_ROW = re.compile(r"^\| \d+ to \d+ \| IndexMismatch,.*\|$", re.M)
 
 
-def with_rows(text, head, rows):
+def with_rows(text: str, head: str, rows: list[str]) -> str:
     """A file whose block behind this line ends with these rows, from the first of them on. A last
     row for all other numbers stays."""
     start = text.index(f"{head}\n") + len(head) + 1
-    indent = re.match(" *", head[head.rindex("\n") + 1 :])[0]
+    last = head[head.rindex("\n") + 1 :]
+    indent = " " * (len(last) - len(last.lstrip()))
     end = text.index(f"\n{indent}}}\n", start) + 1
     body = text[start:end]
     others = re.search(r"^ *\w+ => unreachable!.*\n\Z", body, re.M)
@@ -167,10 +170,12 @@ def with_rows(text, head, rows):
     return text[:start] + own + "".join(rows) + (others[0] if others else "") + text[end:]
 
 
-def with_variants(text):
+def with_variants(text: str) -> str:
     """The file of Rust with the refusals of a router, and their comments."""
     _, meanings = refusals.meanings_of("router_step", "Refusal")
-    declared, numbered, made = [], [], []
+    declared: list[str] = []
+    numbered: list[str] = []
+    made: list[str] = []
     for name, meaning in meanings.items():
         held, pattern, value = HOLDING.get(name, ("", "", ""))
         sign = "    /// "
@@ -185,7 +190,7 @@ def with_variants(text):
     return with_rows(text, "-> Self {\n        match answer.code {", made)
 
 
-def with_names(page):
+def with_names(page: str) -> str:
     """The page with the row of the refusals of a router, but for the first of them."""
     _, *rows = refusals.numbers_of("router_step", "Refusal").values()
     names = ", ".join(name for _, name in rows)
@@ -219,28 +224,30 @@ MOST = {
 }
 
 
-def is_one(what, places):
+def is_one(what: str, places: dict[str, str]) -> bool:
     """Whether these patterns find the same text once in each of these files."""
-    found = {path: re.findall(it, Path(path).read_text(), re.M) for path, it in places.items()}
-    if len({tuple(text.replace("_", "") for text in it) for it in found.values()}) == 1:
-        if all(len(it) == 1 for it in found.values()):
+    matches = {path: re.findall(it, Path(path).read_text(), re.M) for path, it in places.items()}
+    if len({tuple(text.replace("_", "") for text in it) for it in matches.values()}) == 1:
+        if all(len(it) == 1 for it in matches.values()):
             return True
-    print(f"numbers: {what} differ: {found}")
+    print(f"numbers: {what} differ: {matches}")
     return False
 
 
-def check():
+def check() -> bool:
     """Whether all numbers are those of the tables; the differences are told."""
     kinds, arrivals, answers = told("kind_told"), told("arrival_told"), codes()
     constants = {"DONE": 0, **kinds, **arrivals, **answers, **statuses()}
-    pairs = [("include/scion.h", in_c(), constants), ("raw.rs", in_rust(), constants)]
-    for name, wanted in (("Kind", kinds), ("Arrival", arrivals), ("Code", answers)):
-        pairs.append((f"{name} in Python", in_python(name), wanted))
-        pairs.append((f"{name} in JavaScript", in_javascript(name), wanted))
-    wanted = {name: name for name in [*kinds, *arrivals, *answers]}
-    wanted[OF_PACKETS] = constant(OF_WRITING)
-    given = {name: constant(variant) for name, variant in variants_in_rust()}
-    pairs.append(("the variants of Rust", given, wanted))
+    pairs: list[tuple[str, Mapping[str, int | str], Mapping[str, int | str]]] = [
+        ("include/scion.h", in_c(), constants), ("raw.rs", in_rust(), constants),
+    ]
+    for name, numbers in (("Kind", kinds), ("Arrival", arrivals), ("Code", answers)):
+        pairs.append((f"{name} in Python", in_python(name), numbers))
+        pairs.append((f"{name} in JavaScript", in_javascript(name), numbers))
+    variants = {name: name for name in [*kinds, *arrivals, *answers]}
+    variants[OF_PACKETS] = constant(OF_WRITING)
+    in_file = {name: constant(variant) for name, variant in variants_in_rust()}
+    pairs.append(("the variants of Rust", in_file, variants))
     wrong = 0
     for what, given, wanted in pairs:
         for name in sorted(given.keys() | wanted.keys()):

@@ -4,8 +4,9 @@ that it cites."""
 import itertools
 import re
 import sys
-from collections.abc import Sequence
+from collections.abc import Iterator, Sequence
 from pathlib import Path
+from typing import Any
 
 from gate.fault_tables import TYPES, numbers_of
 from gate.pages import settle
@@ -19,12 +20,17 @@ EVENT_FAULT = "EventFault"
 # A definition that tells two cases, and the refusal of the second, which comes before the first.
 FIRST_OF_CASES = {"Sends": "faults.Path"}
 
+# A type of refusals, and the variant if it is known.
+Refused = tuple[str, str | None]
+
 CRATES = {one[0]: crate for crate, types in TYPES.items() for one in types}
 
 
-def members():
+def members() -> Iterator[str]:
     """The rows of an AS's members: each name with the comment above it."""
     table = re.search(r"static AS: \[Member; (\d+)\] = \[\n(.*?)\n\];", MEMBERS.read_text(), re.S)
+    if table is None:
+        sys.exit(f"{MEMBERS} has no table of an AS's members")
     found = re.findall(r'((?:    // .*\n)+)    Member\("(\w+)"', table[2])
     if len(found) != int(table[1]):
         sys.exit(f"{MEMBERS} has a member of an AS without a comment")
@@ -32,7 +38,7 @@ def members():
         yield f"| `{name}` | {re.sub(r' *// *', ' ', comment).replace(chr(10), '').strip()} |"
 
 
-def equations_of(one, *patterns):
+def equations_of(one: Definition, *patterns: str | None) -> Definition:
     """The definition without those equations that are for another case than these."""
     kept, is_own = [one.lines[0]], True
     for line in one.lines[1:]:
@@ -48,13 +54,13 @@ def equations_of(one, *patterns):
 class Refusals:
     """What the definition of a step, and those that it cites, refuse."""
 
-    def __init__(self):
+    def __init__(self) -> None:
         self.specs = Specs(Path())
         self.passed = dict(re.findall(r"^    (\w+)\((\w+)\),$", FAULTS.read_text(), re.M))
         types = [EVENT_FAULT, *self.passed.values()]
         self.numbers = {it: numbers_of(CRATES[it], it) for it in types}
 
-    def words_of(self, one):
+    def words_of(self, one: Definition) -> list[str]:
         """The words of a definition in the order in which they refuse: what stands in an argument
         of `Step` does so before that to which it is given."""
         words, first = self.specs.words(one), FIRST_OF_CASES.get(one.key[2])
@@ -62,7 +68,7 @@ class Refusals:
             return words[::-1]
         return sorted(words, key=lambda it: it != first)
 
-    def below(self, one, fault):
+    def below(self, one: Definition, fault: str) -> str | None:
         """The type of the refusals of a definition that another with this type passes on."""
         if one.key[:2] == ("network_core", "Step"):
             return EVENT_FAULT
@@ -70,7 +76,7 @@ class Refusals:
         wanted = self.passed.values() if fault == EVENT_FAULT else [fault]
         return found[1] if found and found[1] in wanted else None
 
-    def of(self, one, fault, route):
+    def of(self, one: Definition, fault: str, route: str | None) -> Iterator[Refused]:
         """The refusals of a definition in their order: the type, and the variant if it is known."""
         for word in self.words_of(equations_of(one, route) if one.key[2] == "way_by" else one):
             if made := self.specs.constructor(one, word):
@@ -83,14 +89,15 @@ class Refusals:
                 if below := self.below(it, fault):
                     yield from self.of(it, below, route)
 
-    def passed_by(self, event, route):
+    def passed_by(self, event: str, route: str | None) -> list[Refused]:
         """The refusals of an event in their order."""
-        step = equations_of(self.specs.named("network_core/Step.Step"), event)
+        step = equations_of(self.specs.definition("network_core/Step.Step"), event)
         return [*self.of(step, EVENT_FAULT, route)]
 
-    def of_event(self, event, route):
+    def of_event(self, event: str, route: str | None) -> str:
         """The same as text, with a refusal's number and name, or a type of which all may come."""
-        found, told = self.passed_by(event, route), []
+        found = self.passed_by(event, route)
+        told: list[str] = []
         for kind, variant in found:
             if variant:
                 told.append("{} {}".format(*self.numbers[kind][variant]))
@@ -99,38 +106,40 @@ class Refusals:
         return ", ".join(it for it, _ in itertools.groupby(told))
 
 
-def readings(specs):
+def readings(specs: Specs) -> Iterator[tuple[str, str]]:
     """The words of lines, each with the definition that reads its members."""
     for name in "event_in", "plain_event", "traffic_event":
-        text = specs.named(f"event_lines/Line.{name}").said
+        text = specs.definition(f"event_lines/Line.{name}").said
         for part in text.split('bytes_eq word (codes "')[1:]:
             word, _, body = part.partition('"')
             called = re.search(r"then (\w+_in) d", body)
-            yield word, specs.named(f"event_lines/Line.{called[1]}").said if called else body
+            yield word, specs.definition(f"event_lines/Line.{called[1]}").said if called else body
 
 
-def events(specs):
+def events(specs: Specs) -> list[tuple[tuple[str, str | None], str]]:
     """The words of lines by the event and the route that they mean, in the order of events."""
-    words = {}
+    words: dict[tuple[str, str | None], str] = {}
     for word, body in readings(specs):
-        made = re.search(r"Some \(?(\w+)(?: \((\w+))?", body)
-        words[made[1], made[2]] = word
-    order = specs.named("network_core/Event.EventValue").variants
+        if made := re.search(r"Some \(?(\w+)(?: \((\w+))?", body):
+            words[made[1], made[2]] = word
+    order = specs.definition("network_core/Event.EventValue").variants
     return sorted(words.items(), key=lambda it: order.index(it[0][0]))
 
 
-def words_by_type():
+def words_by_type() -> dict[str, list[str]]:
     """The words of the events that are refused with faults of each type."""
-    found, words = Refusals(), {}
+    found = Refusals()
+    words: dict[str, list[str]] = {}
     for (event, route), word in events(found.specs):
         for kind in {it for it, _ in found.passed_by(event, route)}:
             words.setdefault(kind, []).append(word)
     return words
 
 
-def refusals():
+def refusals() -> Iterator[str]:
     """The rows of events' refusals; events that have the same share a row."""
-    found, rows = Refusals(), {}
+    found = Refusals()
+    rows: dict[str, list[str]] = {}
     for (event, route), word in events(found.specs):
         if told := found.of_event(event, route):
             rows.setdefault(told, []).append(f"`{word}`")
@@ -138,14 +147,15 @@ def refusals():
         yield f"| {', '.join(words)} | {told} |"
 
 
-def written(text):
+def written(text: str) -> str:
     """The page with its tables."""
     tables = {"| member of an AS | value |": members(), "| `do` | refusals |": refusals()}
     for head, rows in tables.items():
         table = re.compile(rf"(?<={re.escape(head)}\n\|---\|---\|\n)(?:\|.*\n)+")
         if not table.search(text):
             sys.exit(f"{PAGE} has no table with the head {head}")
-        text = table.sub(lambda _, rows=rows: "".join(f"{it}\n" for it in rows), text)
+        lines = "".join(f"{it}\n" for it in rows)
+        text = table.sub(lambda _: lines, text)
     return text
 
 

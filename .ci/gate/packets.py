@@ -1,13 +1,15 @@
 """Holds the calls for whole packets to a second reader of them.
 
-First the turns of `cases/packets/turns.tsv` are made by a shared object. Then packets are changed at
-random and given to `scion_whole_packet_read`, and to the reader below, which was written from the
-layout of docs/router.md alone: both have to say the same, or refuse the packet for the same reason.
+First the turns of `cases/packets/turns.tsv` are made by a shared object. Then packets are changed
+at random and given to `scion_whole_packet_read`, and to the reader below, which was written from
+the layout of docs/router.md alone: both have to say the same, or refuse the packet for the same
+reason.
 What was read has to be written as the same bytes; the reply has to be the one that the layout says;
 and a turn has to be that of the packet's frame, with all other bytes as before. The last line has
 the numbers; the status is 1 where something differs."""
 import random
-from collections.abc import Sequence
+from collections.abc import Callable, Iterator, Sequence
+from typing import Any
 
 from gate import TOP
 from gate.hosts import Library, scion
@@ -24,11 +26,11 @@ class Bad(Exception):
     """The number of a refusal, and that of the path header's refusal or 0."""
 
 
-def unhex(text):
+def unhex(text: str) -> bytes:
     return b"" if text == "-" else bytes.fromhex(text)
 
 
-def cases():
+def cases() -> Iterator[tuple[str, Any, int, Any, tuple[int, int, bytes]]]:
     """The router, the second, the packet and the answer of each case, with the case's name."""
     with open(CASES, encoding="utf-8") as it:
         rows = [line.rstrip("\n").split("\t") for line in it]
@@ -48,11 +50,11 @@ def cases():
 # ---- the second reader
 
 
-def number(data):
+def number(data: bytes) -> int:
     return int.from_bytes(data, "big")
 
 
-def path_length(data):
+def path_length(data: bytes) -> int:
     """The length of the path header with which these bytes begin."""
     if len(data) < 4:
         raise Bad(90, 20)
@@ -82,7 +84,7 @@ def path_length(data):
     return 4 + 8 * infos + 12 * hops
 
 
-def fields(data):
+def fields(data: bytes) -> tuple[tuple[Any, ...], bytes, bytes]:
     """What a packet says: the fields in front of its path header, that header, and the payload."""
     if len(data) < 12:
         raise Bad(160, 0)
@@ -105,7 +107,7 @@ def fields(data):
     return info, data[path:payload], data[payload:]
 
 
-def way_back(path):
+def way_back(path: bytes) -> bytes:
     """The path header of the way back: fields in reverse order, in the other direction."""
     meta = number(path[:4])
     lengths = [it for it in (meta >> 12 & 63, meta >> 6 & 63, meta & 63) if it]
@@ -120,7 +122,7 @@ def way_back(path):
     return b"".join([first.to_bytes(4, "big"), *turned, *reversed(rest)])
 
 
-def reply(data):
+def reply(data: bytes) -> bytes:
     """The reply to a packet, byte for byte."""
     _, path, payload = fields(data)
     first = 28 + 4 * (data[9] >> 4 & 3) + 4
@@ -133,10 +135,10 @@ def reply(data):
 # ---- both beside one another
 
 
-def changed(rng, data):
+def changed(rng: random.Random, packet: bytes) -> bytes:
     """A packet with some of its bytes changed, half of them in front of its path header, or cut,
     or longer."""
-    data = bytearray(data)
+    data = bytearray(packet)
     for _ in range(rng.choice((0, 1, 1, 1, 2, 3))):
         if not data:
             break
@@ -152,7 +154,7 @@ def changed(rng, data):
     return bytes(data)
 
 
-def fit_lengths(data):
+def fit_lengths(data: bytearray) -> None:
     """Sets both lengths as they are, if a path header is there: a change behind these is then not
     refused for them."""
     path = 36 + 4 * (data[9] >> 4 & 3) + 4 * (data[9] & 3)
@@ -164,37 +166,38 @@ def fit_lengths(data):
         data[5], data[6:8] = end // 4, (len(data) - end).to_bytes(2, "big")
 
 
-def plain(read):
+def plain(read: Any) -> Any:
     """What was read, in the shape that the reader gives; a refusal as it is."""
     if not isinstance(read, scion.WholePacket):
         return read
     destination, source, *hosts = read.info[:4]
-    return (destination, source, *map(tuple, hosts), *read.info[4:]), read.path, read.payload
+    return (destination, source, *(tuple(it) for it in hosts), *read.info[4:]), read.path, read.payload
 
 
 class Comparison:
     """What differed so far between the library and the reader."""
 
-    def __init__(self, library):
+    def __init__(self, library: Any) -> None:
         self.library, self.seen, self.taken, self.wrong = library, 0, 0, 0
 
-    def same(self, what, data, given, wanted):
+    def same(self, what: str, data: bytes, given: object, wanted: object) -> None:
         if given != wanted:
             self.wrong += 1
             print(f"packets: {what} of {data.hex()}: {given}, and not {wanted}")
 
-    def answer(self, call, *args):
+    def answer(self, call: Callable[..., Any], *args: Any) -> Any:
         """What a call returns, or why it refused."""
         try:
             return call(*args)
         except scion.Refused as it:
             return it.code.value, it.header.value if it.header else 0
 
-    def case(self, name, router, now, packet, wanted):
+    def case(self, name: str, router: Any, now: int, packet: Any,
+             wanted: tuple[int, int, bytes]) -> None:
         given = self.library.whole_packet_step(router, now, packet)
         self.same(f"the turn '{name}'", packet.bytes, (int(given.code), *given[1:]), wanted)
 
-    def one(self, router, now, packet):
+    def one(self, router: Any, now: int, packet: Any) -> None:
         """All calls on one packet."""
         data, library = packet.bytes, self.library
         self.seen += 1

@@ -17,6 +17,7 @@ import re
 import signal
 from collections.abc import Sequence
 from pathlib import Path
+from typing import Any
 
 from gate import TOP, fault_tables, playground_bounds
 from gate.machine import Machine
@@ -31,7 +32,7 @@ TURNS, CHILDREN, BODY_BYTES, BURST = 128, 8, 8 << 20, 200
 SIDE_BY_SIDE, SOON = 16, 20 * BURST
 
 
-def check_start(checks, server):
+def check_start(checks: Checks, server: Server) -> Any:
     """The networks, the refusals and the page."""
     status, start = server.call("start")
     checks.same("start", status, 200)
@@ -52,7 +53,7 @@ def check_start(checks, server):
     return start["networks"]
 
 
-def check_networks(checks, server, networks):
+def check_networks(checks: Checks, server: Server, networks: dict[str, Any]) -> None:
     """The lines of each example, one by one and at once, have the replies of `scionet run`."""
     for number, name in enumerate(("row", "pair", "fork")):
         page, lines = Page(server, number), networks[name]["lines"]
@@ -60,15 +61,16 @@ def check_networks(checks, server, networks):
         replies = [reply for line in lines for reply in page.give(line)]
         checks.same(f"{name}, line by line", replies, wanted)
         checks.same(f"{name}, a reload", page.give(*lines, at=0), wanted)
-        for words, asked in (
+        views: list[tuple[list[str], dict[str, Any]]] = [
             (["--packet", "0"], {"packet": 0}),
             (["--answer", "0", "--path", "0"], {"answer": 0, "path": 0}),
-        ):
+        ]
+        for words, asked in views:
             text = server.programs.printed("scionet_view", ["path", *words], lines)
             checks.same(f"{name}, the path of {asked}", page.view(**asked), text)
 
 
-def check_delivery(checks, server, networks):
+def check_delivery(checks: Checks, server: Server, networks: dict[str, Any]) -> None:
     """A whole beaconing of the largest example, and a packet from one ISD to the other."""
     lines = networks["ten"].get("lines") or networks["pair"]["lines"][:1]
     ends = ("1-ff00:0:112", "2-ff00:0:213") if "lines" in networks["ten"] else (
@@ -92,7 +94,7 @@ def check_delivery(checks, server, networks):
     checks.same("its way", page.give(written("show", packet=0)), [f"delivered; {walk}"])
 
 
-def check_refusals(checks, server, networks):
+def check_refusals(checks: Checks, server: Server, networks: dict[str, Any]) -> None:
     """Refusals of topologies, events, policies, the verifier and routers."""
     row = networks["row"]["lines"]
     page = Page(server, 30)
@@ -117,40 +119,47 @@ def check_refusals(checks, server, networks):
         checks.same(f"after {lines}", page.give(*lines)[-1], reply)
 
 
-def check_turn(checks, server):
+def check_turn(checks: Checks, server: Server) -> None:
     """The checks of a router over a packet, which README.md shows."""
     packet = (
         "0001ff00000001100001ff0000000111000020000000b39600000064"
         "003f00020000b1b2b3b4b5b6003f00000001a1a2a3a4a5a6"
     )
-    asked = {"ia": "1-ff00:0:111", "router": 0, "key": "6b", "now": 100, "from": "host"}
+    asked: dict[str, Any] = {
+        "ia": "1-ff00:0:111", "router": 0, "key": "6b", "now": 100, "from": "host",
+    }
     interfaces = ["2,parent,0,up"]
     status, answer = server.call("turn", **asked, interfaces=interfaces, bytes=packet)
     words = [it for name, value in asked.items() for it in (f"--{name}", str(value))]
     wanted = server.programs.printed("scionet_view", ["packet", *words, *interfaces], [packet])
     checks.same("a turn", (status, answer.get("text")), (200, wanted))
     checks.same("its outcome", answer["text"].splitlines()[-1:], ["refused 94 BadMac"])
-    for changed in ({"ia": "--help"}, {"router": "0"}, {"router": 64}, {"from": "--help"},
-                    {"key": "6"}, {"interfaces": ["--help"]}, {"interfaces": "2,parent,0,up"},
-                    {"bytes": "--help"}):
+    changes: list[dict[str, Any]] = [
+        {"ia": "--help"}, {"router": "0"}, {"router": 64}, {"from": "--help"}, {"key": "6"},
+        {"interfaces": ["--help"]}, {"interfaces": "2,parent,0,up"}, {"bytes": "--help"},
+    ]
+    for changed in changes:
         members = {"interfaces": interfaces, "bytes": packet, **asked, **changed}
         checks.same(f"a turn with {changed}", server.call("turn", **members)[0], 400)
 
 
-def check_beacons(checks, server):
+def check_beacons(checks: Checks, server: Server) -> None:
     """Requests for a beaconing that the program is not given."""
-    for members in ({}, {"topology": 3}, {"topology": "\ud800"}, {"topology": "{}", "now": -1},
-                    {"topology": "{}", "per-pair": "--help"}, {"topology": "{}", "now": 1 << 32}):
+    requests: list[dict[str, Any]] = [
+        {}, {"topology": 3}, {"topology": "\ud800"}, {"topology": "{}", "now": -1},
+        {"topology": "{}", "per-pair": "--help"}, {"topology": "{}", "now": 1 << 32},
+    ]
+    for members in requests:
         checks.same(f"a beaconing with {members}", server.call("beacons", **members)[0], 400)
 
 
-def check_pages(checks, server, networks):
+def check_pages(checks: Checks, server: Server, networks: dict[str, Any]) -> None:
     """Pages beside one another, pages too many, and processes that have ended."""
     row, pair = networks["row"]["lines"], networks["pair"]["lines"]
     one, other = Page(server, 40), Page(server, 41)
     printed = server.programs.printed
     wanted = [printed("scionet", ["run"], it).splitlines() for it in (row, pair)]
-    found = [[], []]
+    found: list[list[Any]] = [[], []]
     for place, lines in enumerate(zip(row, pair)):
         for page, line, replies in zip((one, other), lines, found):
             replies += page.give(line)
@@ -171,18 +180,19 @@ def check_pages(checks, server, networks):
     checks.same("processes after it", len(server.children()), CHILDREN - 1)
 
 
-def check_strangers(checks, server, networks):
+def check_strangers(checks: Checks, server: Server, networks: dict[str, Any]) -> None:
     """Requests that are not those of the page."""
     port, run = server.address.port, {"page": f"{60:016x}", "at": 0}
     body = json.dumps({**run, "lines": networks["row"]["lines"]}).encode()
-    for status, changed in (
+    headers: list[tuple[int, dict[str, Any]]] = [
         (403, {"Playground_Token": None}), (403, {"Playground_Token": server.token[:-1]}),
         (403, {"Playground_Token": "\xe9"}), (403, {"Origin": None}), (403, {"Origin": "null"}),
         (403, {"Origin": "https://example.com"}), (403, {"Origin": f"http://localhost:{port}"}),
         (403, {"Host": "example.com"}), (403, {"Host": f"localhost:{port}"}), (403, {"Host": None}),
         (413, {"Content_Length": str(BODY_BYTES + 1)}), (411, {"Content_Length": None}),
         (411, {"Content_Length": "-1"}), (411, {"Transfer_Encoding": "chunked"}),
-    ):
+    ]
+    for status, changed in headers:
         is_whole = "Content_Length" not in changed
         found = server.status("POST", "/run", body if is_whole else None, **changed)
         checks.same(f"a request with {changed}", found, status)
@@ -195,24 +205,25 @@ def check_strangers(checks, server, networks):
         (400, json.dumps({**run, "page": "../a", "lines": []}).encode()),
     ):
         found = server.status("POST", "/run", content)
-        checks.same(f"the body {content[:60]}", found, status)
+        checks.same(f"the body {content[:60]!r}", found, status)
     query = f"?{server.address.query}"
-    for status, method, path, changed in (
+    addresses: list[tuple[int, str, str, dict[str, Any]]] = [
         (403, "GET", "/", {}), (403, "GET", "/?token=", {}), (403, "GET", f"/{query}0", {}),
         (403, "GET", f"/{query}", {"Origin": "https://example.com"}),
         (403, "GET", f"/{query}", {"Host": "example.com"}), (404, "GET", f"/run{query}", {}),
         (404, "POST", "/other", {}), (501, "OPTIONS", "/run", {}), (501, "PUT", "/run", {}),
-    ):
+    ]
+    for status, method, path, changed in addresses:
         found = server.status(method, path, **changed)
         checks.same(f"{method} {path.partition('=')[0]} {changed}", found, status)
 
 
-def check_rate(checks, server):
+def check_rate(checks: Checks, server: Server) -> None:
     """Requests that come too soon are refused, and later ones are not. They come side by side, so
     that a slow machine makes them soon enough, and no more of them once one was refused."""
     end, found = json.dumps({"page": f"{70:016x}"}).encode(), set()
 
-    def ask(_):
+    def ask(_: int) -> None:
         if 429 not in found:
             found.add(server.status("POST", "/end", end))
 
@@ -222,7 +233,7 @@ def check_rate(checks, server):
     checks.same("a request later", server.call("end", page=f"{70:016x}")[0], 200)
 
 
-def check_windows(checks, server, machine, pictures):
+def check_windows(checks: Checks, server: Server, machine: Machine, pictures: Path | None) -> None:
     """The page itself, in what the machine has to show it."""
     if machine.has("node"):
         window = NodeWindow(server)
@@ -232,7 +243,7 @@ def check_windows(checks, server, machine, pictures):
         check_tabs(checks, server, pictures)
 
 
-def check_all(checks, server, machine, pictures):
+def check_all(checks: Checks, server: Server, machine: Machine, pictures: Path | None) -> None:
     """Everything that is asked of one server."""
     networks = check_start(checks, server)
     check_networks(checks, server, networks)

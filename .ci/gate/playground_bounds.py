@@ -11,9 +11,12 @@ import socket
 import tempfile
 import threading
 import time
+from collections.abc import Callable
 from pathlib import Path
+from typing import Any
 
-from gate.playground_server import Programs, Server
+from gate.playground_server import Checks, Programs, Server
+from gate.texts import found
 
 # The word `--now N` says what the stand-in does.
 WAITS, PRINTS, TELLS_LIMITS, SPINS = range(4)
@@ -38,14 +41,14 @@ REQUEST_SECONDS, CLOSED_SECONDS = 10, 15
 MOST_KIB = 200 << 10
 
 
-def processes_of(server):
+def processes_of(server: Server) -> list[int]:
     """The processes that have the server as their parent."""
     path = Path(f"/proc/{server.process.pid}/task")
     texts = (it.read_text() for it in path.glob("*/children"))
     return sorted(int(it) for text in texts for it in text.split())
 
 
-def wait_until(is_so, seconds):
+def wait_until(is_so: Callable[[], object], seconds: float) -> bool:
     """Whether it is so before this time is over."""
     until = time.monotonic() + seconds
     while not is_so():
@@ -55,18 +58,18 @@ def wait_until(is_so, seconds):
     return True
 
 
-def is_alive(pid):
+def is_alive(pid: int) -> bool:
     try:
         return Path(f"/proc/{pid}/stat").read_text().rpartition(")")[2].split()[0] != "Z"
     except OSError:
         return False
 
 
-def view(server, what):
+def view(server: Server, what: int) -> tuple[int, Any]:
     return server.call("beacons", topology="{}", now=what)
 
 
-def check_end(checks, folder, number):
+def check_end(checks: Checks, folder: Path, number: signal.Signals) -> None:
     """Two long views and a run leave no process behind a server that gets this signal."""
     server = Server(Programs(folder))
     server.call("run", page=f"{1:016x}", at=0, lines=["{}"])
@@ -86,13 +89,13 @@ def check_end(checks, folder, number):
         it.join()
 
 
-def lost(server):
+def lost(server: Server) -> None:
     """A view whose server ends before it."""
     with contextlib.suppress(OSError, ValueError, http.client.HTTPException):
         view(server, WAITS)
 
 
-def check_views(checks, server):
+def check_views(checks: Checks, server: Server) -> None:
     """What a view may take."""
     status, answer = view(server, TELLS_LIMITS)
     limits = answer.get("text", "").split()
@@ -102,22 +105,23 @@ def check_views(checks, server):
     checks.same("it was not read to its end", time.monotonic() - begun < 8, True)
     checks.same("a view that takes too much processor time", view(server, SPINS)[0], 504)
     checks.same("processes of views", processes_of(server), [])
-    status = Path(f"/proc/{server.process.pid}/status").read_text()
-    largest = int(re.search(r"^VmHWM:\s+(\d+) kB$", status, re.M)[1])
+    memory = Path(f"/proc/{server.process.pid}/status").read_text()
+    largest = int(found(r"^VmHWM:\s+(\d+) kB$", memory, re.M)[1])
     checks.same(f"{largest} KiB of memory", largest < MOST_KIB, True)
 
 
 class Slow:
     """Connections that send a byte now and then, and never a whole request."""
 
-    def __init__(self, server, count):
-        self.begun, address = time.monotonic(), ("127.0.0.1", server.address.port)
+    def __init__(self, server: Server, count: int) -> None:
+        self.begun, address = time.monotonic(), ("127.0.0.1", server.address.port or 0)
         self.sockets = [socket.create_connection(address) for _ in range(count)]
-        self.seconds, self.is_over = None, threading.Event()
+        self.seconds: float | None = None
+        self.is_over = threading.Event()
         self.thread = threading.Thread(target=self.send)
         self.thread.start()
 
-    def send(self):
+    def send(self) -> None:
         """Sends until the last connection is closed, and notes how long it was open."""
         last = self.sockets[-1]
         last.settimeout(0.5)
@@ -130,19 +134,19 @@ class Slow:
                     last.recv(1 << 16)
                 self.seconds = time.monotonic() - self.begun
 
-    def wait(self):
+    def wait(self) -> float | None:
         """How long the last connection was open, if it was closed in time."""
         self.thread.join(max(0, self.begun + CLOSED_SECONDS - time.monotonic()))
         return self.seconds
 
-    def end(self):
+    def end(self) -> None:
         self.is_over.set()
         self.thread.join()
         for it in self.sockets:
             it.close()
 
 
-def check_strangers(checks, server):
+def check_strangers(checks: Checks, server: Server) -> None:
     """Strangers who hold all connections don't keep the user out, nor longer than the deadline."""
     slow = Slow(server, STRANGERS)
     try:
@@ -150,6 +154,7 @@ def check_strangers(checks, server):
         page = lambda: server.status("GET", f"/?{server.address.query}", Origin=None)
         for what, ask in (("a page", page), ("a view", lambda: view(server, TELLS_LIMITS)[0])):
             begun = time.monotonic()
+            status: object
             try:
                 status = ask()
             except (OSError, http.client.HTTPException) as error:
@@ -157,14 +162,14 @@ def check_strangers(checks, server):
             checks.same(f"{what} among {STRANGERS} strangers", status, 200)
             seconds = time.monotonic() - begun
             checks.same(f"{what} within 2 seconds", seconds < SERVED_SECONDS, True)
-        seconds = slow.wait()
-        is_closed = seconds is not None and seconds >= REQUEST_SECONDS - 1
-        checks.same(f"a slow connection closed after {seconds} s", is_closed, True)
+        closed = slow.wait()
+        is_closed = closed is not None and closed >= REQUEST_SECONDS - 1
+        checks.same(f"a slow connection closed after {closed} s", is_closed, True)
     finally:
         slow.end()
 
 
-def check(checks, programs):
+def check(checks: Checks, programs: Programs) -> None:
     with tempfile.TemporaryDirectory() as name:
         folder = Path(name)
         (folder / "scionet").symlink_to(Path(programs.path("scionet")).resolve())

@@ -5,7 +5,9 @@ import signal
 import subprocess
 import sys
 import time
+from collections.abc import Iterable
 from pathlib import Path
+from typing import Any
 from urllib.parse import parse_qs, urlsplit
 
 from gate import TOP, children
@@ -13,26 +15,26 @@ from gate import TOP, children
 SECONDS = 30
 
 
-def written(do, **members):
+def written(do: str, **members: Any) -> str:
     """The line of an event."""
     return json.dumps({"do": do, **members}, separators=(",", ":"))
 
 
-def turn(packet=0):
+def turn(packet: int = 0) -> str:
     return written("turn", packet=packet)
 
 
 class Programs:
     """The folder with the built programs, or with the crates in which they are built."""
 
-    def __init__(self, folder):
+    def __init__(self, folder: Path) -> None:
         self.folder = folder
 
-    def path(self, name):
+    def path(self, name: str) -> str:
         path = self.folder / name / "out" / name
         return str(path if path.is_file() else self.folder / name)
 
-    def printed(self, name, words, lines):
+    def printed(self, name: str, words: list[str], lines: Iterable[str]) -> str:
         """What a program prints over these lines, without the server."""
         given = "".join(f"{it}\n" for it in lines).encode()
         return children.run([self.path(name), *words], given, SECONDS).stdout.decode()
@@ -41,17 +43,19 @@ class Programs:
 class Server:
     """The server, as its page uses it."""
 
-    def __init__(self, programs):
+    def __init__(self, programs: Programs) -> None:
         self.programs, server = programs, str(TOP / "tools" / "playground.py")
         words = [sys.executable, server, "--programs", str(programs.folder)]
         self.process = subprocess.Popen(words, stdout=subprocess.PIPE, text=True)
+        assert self.process.stdout
         printed_line = self.process.stdout.readline()
         if not printed_line:
             sys.exit("playground: the server did not start")
         self.address = urlsplit(printed_line.removeprefix("playground: ").strip())
         self.host, self.token = self.address.netloc, parse_qs(self.address.query)["token"][0]
 
-    def ask(self, method, path, body=None, **changed):
+    def ask(self, method: str, path: str, body: bytes | None = None,
+            **changed: Any) -> tuple[int, str, Any]:
         """The status and the content of an answer. A header that is changed to None is not sent."""
         headers = {
             "Host": self.host,
@@ -71,10 +75,10 @@ class Server:
         connection.close()
         return found
 
-    def status(self, method, path, body=None, **changed):
+    def status(self, method: str, path: str, body: bytes | None = None, **changed: Any) -> int:
         return self.ask(method, path, body, **changed)[0]
 
-    def call(self, name, **members):
+    def call(self, name: str, **members: Any) -> tuple[int, Any]:
         """The status and the object of a call, which waits where it came too soon."""
         while True:
             status, text, _ = self.ask("POST", f"/{name}", json.dumps(members).encode())
@@ -82,7 +86,7 @@ class Server:
                 return status, json.loads(text)
             time.sleep(0.2)
 
-    def children(self):
+    def children(self) -> list[int]:
         """The processes of `scionet` that the server has."""
         found = []
         for path in Path("/proc").glob("[0-9]*/stat"):
@@ -95,7 +99,7 @@ class Server:
                 found.append(int(path.parent.name))
         return found
 
-    def stop(self):
+    def stop(self) -> int:
         """The status with which it stops."""
         self.process.send_signal(signal.SIGTERM)
         return self.process.wait(SECONDS)
@@ -104,10 +108,11 @@ class Server:
 class Page:
     """A page: its id, and its lines, which it holds itself."""
 
-    def __init__(self, server, number):
-        self.server, self.id, self.lines = server, f"{number:016x}", []
+    def __init__(self, server: Server, number: int) -> None:
+        self.server, self.id = server, f"{number:016x}"
+        self.lines: list[str] = []
 
-    def give(self, *lines, at=None):
+    def give(self, *lines: str, at: int | None = None) -> Any:
         """The replies to lines."""
         place = len(self.lines) if at is None else at
         status, answer = self.server.call("run", page=self.id, at=place, lines=lines)
@@ -116,15 +121,15 @@ class Page:
         self.lines = self.lines[:place] + [*lines[: len(answer["replies"])]]
         return answer["replies"]
 
-    def view(self, name="view", **members):
+    def view(self, name: str = "view", **members: Any) -> Any:
         return self.server.call(name, page=self.id, **members)[1].get("text")
 
 
 class Checks:
-    def __init__(self):
+    def __init__(self) -> None:
         self.count, self.wrong = 0, 0
 
-    def same(self, what, found, wanted):
+    def same(self, what: str, found: Any, wanted: Any) -> None:
         self.count += 1
         if found != wanted:
             self.wrong += 1

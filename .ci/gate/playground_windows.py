@@ -6,10 +6,12 @@ import signal
 import subprocess
 import sys
 from pathlib import Path
+from typing import Any
 
 from gate import TOP, browser
+from gate.browser import Tab
 from gate.children import Limit
-from gate.playground_server import SECONDS, written
+from gate.playground_server import SECONDS, Checks, Server, written
 
 # The seconds in which all of the page is tried in node.
 WINDOW_SECONDS = 300
@@ -20,7 +22,7 @@ class NodeWindow:
 
     kind = "node"
 
-    def __init__(self, server):
+    def __init__(self, server: Server) -> None:
         script = Path(__file__).with_name("playground.js")
         page = TOP / "tools" / "playground.html"
         words = ["node", str(script), str(page), server.address.geturl()]
@@ -30,32 +32,34 @@ class NodeWindow:
         self.limit.timer.start()
         self.load()
 
-    def ask(self, *command):
+    def ask(self, *command: Any) -> Any:
+        assert self.process.stdin and self.process.stdout
         print(json.dumps(command), file=self.process.stdin, flush=True)
         answer = self.process.stdout.readline()
         if not answer:
             sys.exit(f"playground: {self.limit.fault or f'node has ended at {command}'}")
         return json.loads(answer)
 
-    def load(self):
+    def load(self) -> None:
         self.ask("load")
 
-    def press(self, name):
+    def press(self, name: str) -> None:
         self.ask("press", name)
 
-    def text(self, name):
+    def text(self, name: str) -> Any:
         return self.ask("text", name)
 
-    def value(self, name):
+    def value(self, name: str) -> Any:
         return self.ask("value", name)
 
-    def set(self, name, value):
+    def set(self, name: str, value: str) -> None:
         self.ask("set", name, value)
 
-    def changed(self):
+    def changed(self) -> Any:
         return self.ask("changed")
 
-    def close(self):
+    def close(self) -> None:
+        assert self.process.stdin
         self.process.stdin.close()
         self.process.wait(SECONDS)
         self.limit.timer.cancel()
@@ -73,63 +77,66 @@ class BrowserWindow:
         wait();
     })"""
 
-    def __init__(self, tab):
+    def __init__(self, tab: Tab) -> None:
         self.tab = tab
         self.tab.value(self.REST)
 
-    def element(self, name, rest):
+    def element(self, name: str, rest: str) -> Any:
         return self.tab.value(f"document.getElementById({json.dumps(name)}){rest}")
 
-    def load(self):
+    def load(self) -> None:
         self.tab.reload()
         self.tab.value(self.REST)
 
-    def press(self, name):
+    def press(self, name: str) -> None:
         self.element(name, ".click()")
         self.tab.value(self.REST)
 
-    def text(self, name):
+    def text(self, name: str) -> Any:
         return self.element(name, ".textContent")
 
-    def value(self, name):
+    def value(self, name: str) -> Any:
         return self.element(name, ".value")
 
-    def set(self, name, value):
+    def set(self, name: str, value: str) -> None:
         self.element(name, f".value = {json.dumps(value)}")
 
-    def changed(self):
+    def changed(self) -> Any:
         return self.tab.value(
             'Array.from(document.querySelectorAll("#fields .changed"), it => it.textContent)')
+
+
+Window = NodeWindow | BrowserWindow
 
 
 class Hand:
     """What presses the buttons of a page, and checks what it says."""
 
-    def __init__(self, checks, window):
+    def __init__(self, checks: Checks, window: Window) -> None:
         self.checks, self.window = checks, window
 
-    def has(self, what, found, wanted):
+    def has(self, what: str, found: Any, wanted: Any) -> None:
         self.checks.same(f"the page in {self.window.kind}, {what}", found, wanted)
 
-    def says(self, what, wanted):
+    def says(self, what: str, wanted: Any) -> None:
         found = self.window.text("notice")
         self.has(what, wanted if found.startswith(wanted) else found, wanted)
 
-    def press(self, names, wanted, **values):
+    def press(self, names: str, wanted: str, **values: object) -> None:
         """Fills fields in, presses buttons, and checks what the page says after the last."""
         for name, value in values.items():
-            self.window.set(name, value)
+            self.window.set(name, str(value))
         for name in names.split():
             self.window.press(name)
         self.says(f"after {names}", wanted)
 
-    def checked(self):
+    def checked(self) -> Any:
         """The first and the last line of what a router checked."""
         lines = self.window.text("checks").split("\n")
         return [lines[0], lines[-1]]
 
 
-def check_tutorial(hand):
+def check_tutorial(hand: Hand) -> None:
     """The steps of docs/tutorial.md."""
     window = hand.window
     hand.says("when it is loaded", "topology ok")
@@ -150,7 +157,7 @@ def check_tutorial(hand):
         hand.press(*(("turn", "link 1") if router.endswith("2") else ("turns", "delivered")))
 
 
-def check_page_refusals(hand):
+def check_page_refusals(hand: Hand) -> None:
     """Refusals of a policy, an event, the verifier and routers, on the page of the tutorial."""
     hand.press("back turns", "delivered")
     hand.press("send turn cut turn", "refused 100 LinkDown: The link at the hop's way out",
@@ -163,7 +170,7 @@ def check_page_refusals(hand):
     hand.press("give", "no 40 NotCore", acl="", own=originate)
 
 
-def check_reload(hand):
+def check_reload(hand: Hand) -> None:
     """The page of the tutorial, loaded anew."""
     window = hand.window
     before = [window.value("lines"), window.text("log")]
@@ -174,7 +181,7 @@ def check_reload(hand):
     hand.has("its lines and replies", [window.value("lines"), window.text("log")], before)
 
 
-def check_other_networks(hand):
+def check_other_networks(hand: Hand) -> None:
     """The other examples, a topology that is pasted, and one that is refused."""
     for example in ("pair", "fork"):
         hand.press("load plan all ask send turns", "delivered", example=example)
@@ -185,7 +192,7 @@ def check_other_networks(hand):
     hand.press("sweep", "Load a network first.")
 
 
-def check_page(checks, server, window):
+def check_page(checks: Checks, server: Server, window: Window) -> None:
     """The page itself: its buttons are pressed."""
     hand = Hand(checks, window)
     check_tutorial(hand)
@@ -197,7 +204,7 @@ def check_page(checks, server, window):
     check_other_networks(hand)
 
 
-def check_tabs(checks, server, pictures):
+def check_tabs(checks: Checks, server: Server, pictures: Path | None) -> None:
     """The page in a browser, with a second tab beside it."""
     shown = browser.Browser()
     try:
@@ -211,8 +218,9 @@ def check_tabs(checks, server, pictures):
         hand.has("after another tab", other.value("lines"), lines)
         tabs[1].show()
         hand.press("send turns", "delivered")
-        for number, tab in enumerate(tabs if pictures else []):
-            tab.show()
-            tab.picture(pictures / f"{number}.png")
+        if pictures:
+            for number, tab in enumerate(tabs):
+                tab.show()
+                tab.picture(pictures / f"{number}.png")
     finally:
         shown.stop()

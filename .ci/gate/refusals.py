@@ -5,12 +5,12 @@ The status is 1 too where a number and a name of a refusal that stand beside one
 or in code of any language, are not one refusal's."""
 import re
 import sys
-from collections.abc import Sequence
+from collections.abc import Iterator, Sequence
 from pathlib import Path
 
 from gate.fault_tables import TYPES, all_names, alone, numbers_of
 from gate.lines import words_by_type
-from gate.pages import filled, files, settle
+from gate.pages import files, filled, settle
 from gate.surface import Surface
 
 FRONT = """# All refusals
@@ -63,14 +63,14 @@ ENUM = r"((?:^///.*\n)+)(?:^#\[.*\n)*^pub enum NAME \{\n((?:.*\n)*?)^\}"
 VARIANT = re.compile(r"((?:    ///.*\n)*)((?:    #\[(?:.*\n)*?.*\]\n)*)    (\w+)(?:\(.*\))?,\n")
 
 
-def comment(lines):
+def comment(lines: str) -> str:
     """The first paragraph of a comment, in one line and without links."""
     text = " ".join(line.strip().removeprefix("///").strip() for line in lines.splitlines())
     text = text.split("  ")[0].replace("`Self::", "`")
     return re.sub(r"\[(`[^`]*`)\](?:\([^)]*\))?", r"\1", text).strip()
 
 
-def misnamed(text, names):
+def misnamed(text: str, names: dict[int, str]) -> Iterator[str]:
     """Pairs of a number and a name in a text of which one is of a refusal, and not the other's."""
     pairs = ((int(number), name) for number, name in PAIR.findall(text))
     known = {*names.values()}
@@ -80,7 +80,7 @@ def misnamed(text, names):
             yield f"{number} {name}"
 
 
-def meanings_of(crate, type_name):
+def meanings_of(crate: str, type_name: str) -> tuple[str, dict[str, str]]:
     """What the comments of the code say of a type of refusals, and of each of its variants."""
     pattern = re.compile(ENUM.replace("NAME", type_name), re.M)
     texts = [path.read_text() for path in Path("crates", crate, "src").glob("*.rt")]
@@ -91,19 +91,19 @@ def meanings_of(crate, type_name):
     return meaning, {name: comment(text) for text, _, name in VARIANT.findall(body)}
 
 
-def libraries():
+def libraries() -> list[Surface]:
     """The surfaces of the crates that are libraries, lowest first."""
     names = re.findall(r"^(\w+)[^:#\n]*:", Path("crates.txt").read_text(), re.M)
     found = [it for it in names if Path("crates", it, "src", "lib.rt").exists()]
     return [Surface(Path(), it) for it in found]
 
 
-def calls_by_type(surfaces):
+def calls_by_type(surfaces: list[Surface]) -> dict[str, list[str]]:
     """The public calls whose signatures name each type of refusals, also by another name."""
     own = {one[0]: crate for crate, types in TYPES.items() for one in types}
     texts = [it.read_text() for it in Path("crates").glob("*/src/*.rt")]
     aliases = {it[1]: it[2] for text in texts for it in ALIAS.finditer(text)}
-    calls = {name: [] for name in own}
+    calls: dict[str, list[str]] = {name: [] for name in own}
     for surface in surfaces:
         for call in surface.calls:
             words = re.findall(r"\w+", call.declared.partition("->")[2])
@@ -121,7 +121,7 @@ def calls_by_type(surfaces):
     return calls
 
 
-def section(crate, type_name, calls, lines):
+def section(crate: str, type_name: str, calls: list[str], lines: str) -> Iterator[str]:
     """The part on one type of refusals, with the calls and the lines that give them."""
     told = ", ".join(f"`{it}`" for it in dict.fromkeys(calls))
     numbers = numbers_of(crate, type_name)
@@ -135,7 +135,7 @@ def section(crate, type_name, calls, lines):
         yield f"| {number} | {name} | {variants[variant]} |"
 
 
-def document():
+def document() -> str:
     """The whole text."""
     specs = list(Path("crates").glob("*/specs/*.antt"))
     table = re.compile(r"^abbrev pub code_and_name : ", re.M)
@@ -143,17 +143,18 @@ def document():
     if tables != {*TYPES}:
         sys.exit(f"crates whose tables of refusals are not listed here: {tables ^ {*TYPES}}")
     all_names()
-    calls, words, parts = calls_by_type(libraries()), words_by_type(), []
+    calls, words = calls_by_type(libraries()), words_by_type()
+    parts: list[str] = []
     for crate, types in TYPES.items():
         for name, _, lines in types:
             own = [] if name == "EventFault" else words.get(name, [])
             parts += section(crate, name, calls[name], lines + ", ".join(f"`{it}`" for it in own))
-    own = alone()
-    behind = BEHIND.format(bad_line=own["BadLine"], bad_call=own["BadCall"])
+    others = alone()
+    behind = BEHIND.format(bad_line=others["BadLine"], bad_call=others["BadCall"])
     return FRONT + "\n".join(parts) + "\n" + behind
 
 
-def all_misnamed():
+def all_misnamed() -> Iterator[str]:
     """What is told of each wrong pair in a file."""
     names = all_names()
     for file in files(*READ):

@@ -20,8 +20,9 @@ import resource
 import shutil
 import sys
 import tempfile
-from collections.abc import Sequence
+from collections.abc import Iterator, Sequence
 from pathlib import Path
+from typing import NamedTuple, NoReturn
 
 from gate import TOP, children
 from gate.words import reader
@@ -62,21 +63,32 @@ FAULTY = b'''{"do":"turn"}
 # each.
 MANY, TOGETHER, SECONDS = 20_000, 32, 60
 
-Run = collections.namedtuple("Run", "number status output errors was_refused")
+Pool = concurrent.futures.ThreadPoolExecutor
 
 
-def stop(why):
+class Run(NamedTuple):
+    """A run in which the allocation of this number was refused, if there was one; the status is
+    None where it was killed."""
+
+    number: int
+    status: int | None
+    output: bytes
+    errors: bytes
+    was_refused: bool
+
+
+def stop(why: str) -> NoReturn:
     sys.exit(f"refuse: {why}")
 
 
-def executable(crate, name):
+def executable(crate: str, name: str) -> str:
     path = str(TOP / "crates" / crate / "out" / name)
     if not os.access(path, os.X_OK):
         stop(f"{path} is not there: rt ci builds it")
     return path
 
 
-def built(room):
+def built(room: str) -> str:
     """The library that refuses an allocation, built by the clang of the kit that `rt` is of."""
     rt = shutil.which("rt")
     if rt is None:
@@ -91,7 +103,7 @@ def built(room):
     return library
 
 
-def case(name):
+def case(name: str) -> tuple[bytes, bytes]:
     """What a case of networks gives the program, and its answer."""
     with open(TOP / "cases" / "networks.jsonl", encoding="utf-8") as lines:
         named = {it["name"]: it for it in map(json.loads, lines)}
@@ -100,10 +112,11 @@ def case(name):
     return named[name]["stdin"].encode(), named[name]["stdout"].encode()
 
 
-def ran(library, words, given, number):
+def ran(library: str, words: list[str], given: bytes, number: int) -> Run:
     """A run in which the allocation of this number is refused; none is where it is 0."""
     seen, tells = os.pipe()
     env = {"LD_PRELOAD": library, "REFUSE_AT": str(number), "REFUSE_TELL": str(tells)}
+    ended: tuple[int | None, bytes, bytes]
     try:
         done = children.run(words, given, SECONDS, env=env, pass_fds=(tells,))
         ended = done.returncode, done.stdout, done.stderr
@@ -115,7 +128,7 @@ def ran(library, words, given, number):
         return Run(number, *ended, it.read() != b"")
 
 
-def asked(library, words, given):
+def asked(library: str, words: list[str], given: bytes) -> int:
     """How many allocations a run asks for."""
     last, none = 0, MANY
     while none - last > 1:
@@ -127,29 +140,43 @@ def asked(library, words, given):
     return last
 
 
-class Program:
+class Subject:
+    """What is run: its name, its words and what it is given."""
+
+    name: str
+    words: list[str]
+    given: bytes
+
+    def is_right(self, run: Run) -> bool:
+        """Whether a run has written what it has to."""
+        raise NotImplementedError
+
+    def losses(self, library: str, pool: Pool, runs: list[Run]) -> Iterator[str]:
+        """What the runs lack together. Of several threads the same allocation has another number in
+        each run, so that nothing can be said."""
+        return iter(())
+
+
+class Program(Subject):
     """A program with some words: what it is given, and what it has to write."""
 
-    def __init__(self, words, given, answer, name="scionet"):
+    def __init__(self, words: list[str], given: bytes, answer: bytes,
+                 name: str = "scionet") -> None:
         self.name, self.given, self.answer = " ".join([name, *words]), given, answer
         self.words = [executable(name, name), *words]
 
-    def is_right(self, run):
+    def is_right(self, run: Run) -> bool:
         if (run.status, run.output, run.errors) == (0, self.answer, b""):
             return True
         is_told = (run.status, run.errors) == (1, b"scionet: out of memory\n")
         is_whole = run.output[-1:] in (b"", b"\n")
         return run.was_refused and is_told and is_whole and self.answer.startswith(run.output)
 
-    def losses(self, library, pool, runs):
-        """Of several threads the same allocation has another number in each run."""
-        return []
-
 
 class Lines(Program):
     """`scionet run`, which has one reply for each line."""
 
-    def losses(self, library, pool, runs):
+    def losses(self, library: str, pool: Pool, runs: list[Run]) -> Iterator[str]:
         """The runs that lack a reply to a line before the one at which memory ran out."""
         lines, replies = self.given.splitlines(True), self.replies()
         fronts = [b"".join(lines[:count]) for count in range(1, len(lines) + 1)]
@@ -157,9 +184,9 @@ class Lines(Program):
         for run in runs:
             before = replies[: bisect.bisect_left(counts, run.number)]
             if run.status == 1 and run.output != b"".join(before):
-                yield f"allocation {run.number}: not all replies before its line: {run.output}"
+                yield f"allocation {run.number}: not all replies before its line: {run.output!r}"
 
-    def replies(self):
+    def replies(self) -> list[bytes]:
         """What it writes of each line."""
         return self.answer.splitlines(True)
 
@@ -167,45 +194,47 @@ class Lines(Program):
 class Explanations(Lines):
     """`scionet_view explain`, which writes what there is to say of each line."""
 
-    def __init__(self, given):
+    def __init__(self, given: bytes) -> None:
         words = [executable("scionet_view", "scionet_view"), "explain"]
         answer = children.output(words, given)
         super().__init__(["explain"], given, answer, "scionet_view")
         if not all(self.replies()[1:]):
             stop("a line has no explanation, so that none is looked for before it")
 
-    def replies(self):
+    def replies(self) -> list[bytes]:
         told = [b""] * len(self.given.splitlines())
         for line in self.answer.splitlines(True):
             told[int(line.split()[1].strip(b":")) - 1] += line
         return told
 
 
-class Test:
+class Test(Subject):
     """A test in which memory may be short once."""
 
-    def __init__(self, crate, name):
+    def __init__(self, crate: str, name: str) -> None:
         self.name, self.given = f"{crate} {name}", b""
         self.words = [executable(crate, f"{crate}_tests"), name]
 
-    def is_right(self, run):
+    def is_right(self, run: Run) -> bool:
         is_short = WANTED in run.output or UNKEPT in run.output
         has_passed = run.status == 0 and b"test result: ok" in run.output
         return has_passed and (run.was_refused or not is_short)
 
-    def losses(self, library, pool, runs):
+    def losses(self, library: str, pool: Pool, runs: list[Run]) -> Iterator[str]:
         """A daemon's answer has to be lost once, or the sweep has missed where it is kept."""
         if self.words[-1] == SERVED and not any(UNKEPT in run.output for run in runs):
             yield "an answer was kept in each run"
 
 
-def programs():
-    """A run over a row of ASes, a run with policies, and packets that are sent twice by the path
-    of the first and carried by workers."""
+def programs() -> Iterator[Subject]:
+    """A run over a row of ASes, a run with policies, the report of the row, and packets that are
+    sent twice by the path of the first and carried by workers."""
     given, answer = case(ROW)
     yield Lines(["run"], given, answer)
     yield Lines(["run"], *case(POLICIES))
     yield Explanations(given.splitlines(True)[0] + FAULTY)
+    reports = children.output([executable("scionet_view", "scionet_view"), "report"], given)
+    yield Program(["report"], given, reports, "scionet_view")
     lines, replies = given.splitlines(True), answer.splitlines(True)
     at = next(place for place, line in enumerate(lines) if b'"send"' in line)
     twice = b"".join([*lines[:at], lines[at], lines[at]])
@@ -216,7 +245,7 @@ def programs():
             yield Program(words, twice, b"".join([*replies[:at], *ends]))
 
 
-def tests():
+def tests() -> Iterator[Subject]:
     for crate, fronts in TESTS.items():
         words = [executable(crate, f"{crate}_tests"), "--list"]
         listed = children.output(words).decode()
@@ -227,16 +256,16 @@ def tests():
         yield from (Test(crate, name) for name in names if name.startswith(fronts))
 
 
-def swept(library, subject, pool):
+def swept(library: str, subject: Subject, pool: Pool) -> tuple[list[Run], list[str]]:
     """The runs of a subject, the first with no refusal, and what each wrong one of them did."""
-    runs = []
+    runs: list[Run] = []
     for first in range(0, MANY, TOGETHER):
         numbers = range(first, first + TOGETHER)
         runs += pool.map(lambda it: ran(library, subject.words, subject.given, it), numbers)
         if not runs[-1].was_refused:
             break
     wrong = [
-        f"allocation {run.number}: status {run.status}: {run.output[-300:]} {run.errors[-300:]}"
+        f"allocation {run.number}: status {run.status}: {run.output[-300:]!r} {run.errors[-300:]!r}"
         for run in runs
         if not subject.is_right(run)
     ]

@@ -16,7 +16,8 @@ import json
 import os
 import random
 import re
-from collections.abc import Sequence
+from collections.abc import Iterable, Iterator, Sequence
+from typing import Any
 
 from gate import TOP, answers, children, networks
 from gate.words import reader
@@ -35,11 +36,19 @@ SEARCHED, LOST = 12, 3
 PAIR, CORE = "examples/pair.txt", "1-ff00:0:110#2~2-ff00:0:210#1"
 
 
-def ran(words, given):
+# Two ASes, and the walks between them; the members of a request that say its policy; and how many
+# lines were compared, with what was wrong.
+Pair = tuple[str, ...]
+Walks = list[list[networks.Hop]]
+Policy = dict[str, Any]
+Compared = tuple[int, list[str]]
+
+
+def ran(words: list[str], given: str) -> list[str]:
     return children.output(words, given.encode()).decode().splitlines()
 
 
-def named(ends):
+def named(ends: Iterable[networks.End]) -> str:
     """A link by its ends."""
     return "~".join(f"{ia}#{number}" for ia, number in ends)
 
@@ -47,7 +56,7 @@ def named(ends):
 class Network:
     """A network whose topology is beaconed, and some of whose links are cut."""
 
-    def __init__(self, rng, per_pair):
+    def __init__(self, rng: random.Random, per_pair: int) -> None:
         grown = iter(lambda: networks.Topology(rng), None)
         self.topology = next(it for it in grown if len(it.names) <= ASES)
         words = [VIEW, "beacons", "--per-pair", str(per_pair), "--now", str(NOW)]
@@ -59,7 +68,7 @@ class Network:
             ia, number = link.ends[0]
             self.lines.append(networks.event("cut", ia=ia, **{"if": number}))
 
-    def asked(self, pairs, limit, policy):
+    def asked(self, pairs: list[Pair], limit: int, policy: Policy) -> Iterator[Walks]:
         """The walks of the answer for each pair."""
         asks = [
             networks.event("ask", src=one, dst=other, limit=limit, **policy) for one, other in pairs
@@ -68,9 +77,10 @@ class Network:
         for reply in replies:
             yield [networks.read_walk(text) for text in reply.split("; ")[1:]]
 
-    def segments(self):
+    def segments(self) -> Iterator[answers.Segment]:
         """The segments that the lines register, as `answers.py` has them; no authenticators."""
-        beacons, kinds = [], {it.ends: it.kind for it in self.topology.links}
+        beacons: list[list[tuple[str, int, int]]] = []
+        kinds = {it.ends: it.kind for it in self.topology.links}
         for line in map(json.loads, self.lines[1:]):
             if line["do"] == "originate":
                 beacons.append([(line["ia"], 0, line["egress"])])
@@ -90,22 +100,23 @@ class Network:
                 yield {"kind": "core" if kind == "core" else "intra", "entries": entries,
                        "timestamp": NOW, "beta0": 0}
 
-    def searched(self, pairs):
+    def searched(self, pairs: list[Pair]) -> Compared:
         """How many answers to requests were compared with a search, and which have other walks."""
-        segments, wrong = [*self.segments()], []
+        segments = [*self.segments()]
+        wrong: list[str] = []
         for pair, walks in zip(pairs, self.asked(pairs, ANSWER, {})):
             found = {networks.written_walk(it) for it in walks}
-            wanted = {it for _, it, _ in answers.answer(segments, *pair, None)}
+            wanted = {it for _, it, _ in answers.answer(segments, pair[0], pair[1], None)}
             if found != wanted and (len(walks) < ANSWER or not found < wanted):
                 wrong.append(f"{pair}: {len(found)} walks, and not the {len(wanted)} of a search")
         return len(pairs), wrong
 
-    def until(self, walk):
+    def until(self, walk: list[networks.Hop]) -> int:
         """The last second at which all hops of a walk are live."""
         lives = (self.topology.ases[hop.ia]["exp"] + 1 for hop in walk)
         return (2 * NOW + LIFETIME * min(lives)) // 2
 
-    def line(self, pair, walks, limit, told):
+    def line(self, pair: Pair, walks: Walks, limit: int, told: str) -> tuple[str, list[str]]:
         """The line of a pair, and the links that it needs. Where there are as many walks as the
         limit, how many of those that were found are up is what is told, if that may be."""
         crossed = [self.topology.links_of(walk) for walk in walks]
@@ -116,7 +127,8 @@ class Network:
         if count in ("0", "0+"):
             return f"{line} {count}", []
         best = open_walks[0] if open_walks else None
-        hops, until = (len(best), self.until(best)) if best else ("unknown", "unknown")
+        hops = str(len(best)) if best else "unknown"
+        until = str(self.until(best)) if best else "unknown"
         line += f" {count} hops {hops} until {until} survives"
         if is_full:
             return f"{line} unknown needs unknown", []
@@ -124,7 +136,7 @@ class Network:
         needed = [named(link.ends) for link in self.topology.links if link.ends[0] in ends]
         return f"{line} {survived(crossed)} needs " + " ".join([str(len(needed)), *needed]), needed
 
-    def summary(self, needs):
+    def summary(self, needs: list[list[str]]) -> list[str]:
         """The lines at the end, for the links that the pairs need."""
         links = [named(link.ends) for link in self.topology.links]
         counts = {link: sum(link in needed for needed in needs) for link in links}
@@ -132,13 +144,13 @@ class Network:
         return [f"link {it} pairs {counts[it]}" for it in ranked[:NAMED]]
 
 
-def counted(told, begin, limit):
+def counted(told: str, begin: str, limit: int) -> str:
     """The number of paths that a line tells where there may be more, if it may be that."""
     found = re.match(rf"{re.escape(begin)} (\d+)\+", told)
     return f"{found[1]}+" if found and int(found[1]) <= limit else "of another number"
 
 
-def can_cut(crossed, lost):
+def can_cut(crossed: list[set[networks.End]], lost: int) -> bool:
     """Whether each of the walks that cross these links has one of some links, so many of them."""
     if not crossed or not lost:
         return not crossed
@@ -146,19 +158,20 @@ def can_cut(crossed, lost):
     return any(can_cut([it for it in crossed if end not in it], lost - 1) for end in shortest)
 
 
-def survived(crossed):
+def survived(crossed: list[set[networks.End]]) -> str:
     """How many links may be lost before none of these walks is left, as the report has it."""
     lost = next((it for it in range(LOST) if can_cut(crossed, it + 1)), LOST)
     return f"{lost}+" if lost == LOST else str(lost)
 
 
-def options(policy):
+def options(policy: Policy) -> list[str]:
     """The words of a policy."""
     entries = [word for entry in policy.get("acl", ()) for word in ("--acl", entry)]
     return entries + (["--sequence", policy["sequence"]] if "sequence" in policy else [])
 
 
-def compared(network, pairs, limit, policy, words):
+def compared(network: Network, pairs: list[Pair], limit: int, policy: Policy,
+             words: list[str]) -> Compared:
     """How many lines of a report were compared, and which of them are not as computed here. Where
     an answer to a request is as long as it may be, the report may have more paths."""
     walks = list(network.asked(pairs, limit, policy))
@@ -179,7 +192,7 @@ def compared(network, pairs, limit, policy, words):
     return len(both), [f"{one!r}, not {other!r}" for one, other in both if one != other]
 
 
-def tried(seed, number):
+def tried(seed: int, number: int) -> Compared:
     """What was compared in a network, and what was wrong with it."""
     rng = random.Random(f"{seed} {number}")
     network = Network(rng, rng.choice((1, 2, 4)))
@@ -200,7 +213,7 @@ def tried(seed, number):
     return sum(row[0] for row in rows), wrong
 
 
-def cut_core():
+def cut_core() -> Compared:
     """In the example with one link between two ISDs: that link is needed by exactly the pairs that
     lose their paths when it is cut, and nothing else changes."""
     topology = (TOP / PAIR).read_text().splitlines()[0]
@@ -220,7 +233,7 @@ def cut_core():
     return len(before) + len(after), wrong
 
 
-def refusals():
+def refusals() -> Iterator[str]:
     """What is refused: words with status 2, and addresses of no AS or of one."""
     lines = (TOP / PAIR).read_text()
     rows = (

@@ -2,6 +2,9 @@
 
 This is the one parser of definitions: scripts that print documents from them read them here."""
 import re
+from collections.abc import Iterator, Sequence
+from pathlib import Path
+from typing import Any
 
 START = re.compile(
     r"(?=abbrev |unfoldable |pub |record |data |\S+ : )"
@@ -19,10 +22,13 @@ VARIANT = re.compile(r"^    ([A-Z]\w*)(?=[ ,({])", re.M)
 class Names:
     """What the names of a file mean: those that it defines, and those that it imports."""
 
-    def __init__(self, crate):
-        self.crate, self.named, self.imported, self.aliases = crate, {}, {}, {}
+    def __init__(self, crate: str) -> None:
+        self.crate = crate
+        self.named: dict[str, Definition] = {}
+        self.imported: dict[str, tuple[str, str]] = {}
+        self.aliases: dict[str, str] = {}
 
-    def read_import(self, text):
+    def read_import(self, text: str) -> None:
         many = re.match(r"(.*)\.\{(.*)\}$", text)
         if many is None:
             path, _, alias = text.partition(" as ")
@@ -32,7 +38,7 @@ class Names:
             name, _, alias = name.partition(" as ")
             self.imported[alias or name] = (many[1], name)
 
-    def path_of(self, word):
+    def path_of(self, word: str) -> tuple[str, str] | None:
         """The path and the name under which a word was imported, if it was."""
         first, _, rest = word.partition(".")
         if first in self.aliases and rest:
@@ -43,21 +49,23 @@ class Names:
 class Definition:
     """A definition, or an item of the code: where it stands, its comment and its lines."""
 
-    def __init__(self, key, names, comment=()):
-        self.key, self.names, self.comment, self.lines = key, names, [*comment], []
+    def __init__(self, key: tuple[str, str, str], names: Names,
+                 comment: Sequence[str] = ()) -> None:
+        self.key, self.names, self.comment = key, names, [*comment]
+        self.lines: list[str] = []
 
     @property
-    def anchor(self):
+    def anchor(self) -> str:
         crate, module, name = self.key
         parts = (crate, module.replace(".", "-"), re.sub(r"\W+", "-", name).strip("-") or "sign")
         return "-".join(filter(None, parts))
 
     @property
-    def is_data(self):
+    def is_data(self) -> bool:
         return re.match(r"(pub )?data ", self.lines[0]) is not None
 
     @property
-    def variants(self):
+    def variants(self) -> list[Any]:
         """The constructors, where this is a type that has some."""
         if self.is_data:
             return [line.split()[0] for line in self.lines[1:] if " : " in line]
@@ -65,14 +73,14 @@ class Definition:
         return VARIANT.findall("\n".join(self.lines)) if is_enum else []
 
     @property
-    def titles(self):
+    def titles(self) -> list[str]:
         """The names that are defined here: several, where they are defined by one another."""
         if self.key[2] != "mutual":
             return [self.key[2]]
         return re.findall(r"^  pub (\S+) : ", "\n".join(self.lines), re.M)
 
     @property
-    def applied(self):
+    def applied(self) -> str:
         """The name with the arguments by which it is defined, if there are any; a sign or a name
         that is defined case by case alone."""
         if self.key[2] == "mutual" or "◌" in self.key[2]:
@@ -82,7 +90,7 @@ class Definition:
         return found[1] if found else self.key[2]
 
     @property
-    def said(self):
+    def said(self) -> str:
         """The text without comments."""
         return re.sub(r"(^|\s)(--|//).*", "", "\n".join(self.lines))
 
@@ -90,12 +98,15 @@ class Definition:
 class Module(Names):
     """A file of definitions: its head, and its definitions in their order."""
 
-    def __init__(self, crate, path):
+    def __init__(self, crate: str, path: Path) -> None:
         super().__init__(crate)
         inside = path.with_suffix("").parts
         self.name = ".".join(inside[inside.index("specs") + 1 :])
-        self.head, self.all = [], []
-        pending, one, at_head = [], None, True
+        self.head: list[str] = []
+        self.all: list[Definition] = []
+        pending: list[str] = []
+        one: Definition | None = None
+        at_head = True
         for line in self.imports_read(path.read_text().split("\n")):
             if not line.strip():
                 at_head = at_head and not self.head
@@ -105,9 +116,9 @@ class Module(Names):
                 (self.head if at_head and not self.all else pending).append(line)
             elif line.startswith("infix"):
                 pending.append(line)
-            elif line[0] != " " and START.match(line):
+            elif line[0] != " " and (start := START.match(line)):
                 comment = [it for it in pending if "----" not in it]
-                one = Definition((crate, self.name, START.match(line)[1]), self, comment)
+                one = Definition((crate, self.name, start[1]), self, comment)
                 one.lines, pending = [line], []
                 self.all.append(one)
                 self.named[one.key[2]] = one
@@ -118,7 +129,7 @@ class Module(Names):
             for name in [*one.variants, *one.titles]:
                 self.named.setdefault(name, one)
 
-    def imports_read(self, lines):
+    def imports_read(self, lines: list[str]) -> list[str]:
         """The lines without the imports, which it reads."""
         kept, text = [], ""
         for line in lines:
@@ -135,8 +146,10 @@ class Module(Names):
 class Specs:
     """All definitions of a repository, and the items of the code that they speak of."""
 
-    def __init__(self, top):
-        self.top, self.modules, self.items = top, {}, {}
+    def __init__(self, top: Path) -> None:
+        self.top = top
+        self.modules: dict[tuple[str, str], Module] = {}
+        self.items: dict[tuple[str, str], Definition] = {}
         for path in sorted(top.glob("crates/*/specs/**/*.antt")):
             if path.stem != "Lib":
                 module = Module(path.parts[path.parts.index("crates") + 1], path)
@@ -145,14 +158,21 @@ class Specs:
         pairs = [it.partition(":") for it in lines if it.strip()]
         self.needs = {name.split()[0]: needs.split() for name, _, needs in pairs}
 
-    def named(self, place):
+    def named(self, place: str) -> Definition | None:
         """The definition at a place that is given as `crate/Module.name`; None if it is gone."""
         crate, _, inside = place.partition("/")
         module, _, name = inside.rpartition(".")
         found = self.modules.get((crate, module))
-        return found and found.named.get(name)
+        return found.named.get(name) if found else None
 
-    def item(self, crate, file, name):
+    def definition(self, place: str) -> Definition:
+        """The definition at a place that the gate names, and that therefore has to be there."""
+        found = self.named(place)
+        if found is None:
+            raise SystemExit(f"{place} is gone, and the gate names it")
+        return found
+
+    def item(self, crate: str, file: str, name: str) -> Definition:
         """An item of the code as it is declared: a type, or the contract of a function."""
         if (crate, name) not in self.items:
             text = (self.top / "crates" / crate / "src" / f"{file}.rt").read_text()
@@ -167,27 +187,27 @@ class Specs:
             one.lines = [it for it in lines if not it.strip().startswith("#[")]
         return self.items[crate, name]
 
-    def meaning(self, names, word):
+    def meaning(self, names: Names, word: str) -> Definition | None:
         """The definition or the type that a word of a file means, or none."""
         if word in names.named:
             return names.named[word]
         path = names.path_of(word)
-        return path and self.found(*path)
+        return self.found(*path) if path else None
 
-    def found(self, path, name):
+    def found(self, path: str, name: str) -> Definition | None:
         place = re.match(r"Rattle\.(\w+)\.specs\.(.*)", path)
         if place is None or place[1] not in self.needs:
             return None
         if place[2].startswith("declared."):
             return self.item(place[1], *place[2].split(".")[1:3])
         module = self.modules.get((place[1], place[2]))
-        return module and self.meaning(module, name)
+        return self.meaning(module, name) if module else None
 
-    def words(self, one):
+    def words(self, one: Definition) -> list[str]:
         """The words of a definition that its file defines or imports, as they are met, each once;
         a sign is given by its name, with a ring for each side."""
         text, names = one.said, one.names
-        seen = {}
+        seen: dict[str, None] = {}
         for name in [it for it in [*names.imported, *names.named] if "◌" in it]:
             signs = name.replace("◌", " ").split()
             steps = ">>=" in signs and re.search(r"\bdo\b", text)
@@ -199,20 +219,20 @@ class Specs:
             seen[".".join(word.split(".")[:2]) if is_whole else first] = None
         return [it for it in seen if it in names.named or names.path_of(it)]
 
-    def cited(self, one):
+    def cited(self, one: Definition) -> list[tuple[str, Definition]]:
         """The definitions and types that a definition cites, by the word, as they are met."""
         pairs = [(word, self.meaning(one.names, word)) for word in self.words(one)]
         return [(word, it) for word, it in pairs if it is not None and it is not one]
 
-    def library(self, one):
+    def library(self, one: Definition) -> Iterator[str]:
         """The words of the toolchain's library that a definition uses."""
         for word in self.words(one):
             if word not in one.names.named and self.meaning(one.names, word) is None:
-                if not one.names.path_of(word)[0].startswith("Rattle."):
-                    continue
-                yield word
+                path = one.names.path_of(word)
+                if path and path[0].startswith("Rattle."):
+                    yield word
 
-    def constructor(self, one, word):
+    def constructor(self, one: Definition, word: str) -> tuple[str, str] | None:
         """The type and the name of a constructor that a word of a definition means, or none."""
         path = one.names.path_of(word)
         if path and path[0].endswith(".TheVariants"):
@@ -222,11 +242,11 @@ class Specs:
             return it.key[2], word
         return None
 
-    def closure(self, roots):
+    def closure(self, roots: list[Definition]) -> list[Definition]:
         """The definitions that these cite, and they, each behind those that it cites."""
         order, reached = [], set()
 
-        def reach(one):
+        def reach(one: Definition) -> None:
             if one.key not in reached:
                 reached.add(one.key)
                 for _, it in self.cited(one):
@@ -237,11 +257,11 @@ class Specs:
             reach(one)
         return order
 
-    def crates(self, cited):
+    def crates(self, cited: set[str]) -> list[str]:
         """These crates, lowest first."""
         done = []
 
-        def visit(name):
+        def visit(name: str) -> None:
             for low in self.needs.get(name, ()):
                 if low in self.needs:
                     visit(low)

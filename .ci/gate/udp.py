@@ -8,7 +8,8 @@ was wrong; the status is 1 where something was."""
 import json
 import socket
 import sys
-from collections.abc import Sequence
+from collections.abc import Iterable, Sequence
+from typing import Any
 
 from gate import children
 from gate.hosts import network
@@ -19,41 +20,43 @@ BAD_KEYS = "", "6", "613", "6g", "g6", " 61", "0x61", "61 ", "+1", "61" * 65
 
 
 class Sent:
-    """A packet without its payload, the AS of its host, and the routers; and what was wrong so
-    far."""
+    """A packet whose payload is replaced, the first router on its way, and the routers; and what
+    was wrong so far."""
 
-    def __init__(self, made, event, program):
-        packet, self.ia, payload = made.packet(event)
-        self.packet = packet[: len(packet) - payload]
-        asked, paths = made.answers[event["ask"]]
-        ways = (hop.partition("#") for hop in paths[event["path"]]["walk"].split(" "))
+    def __init__(self, made: Any, event: dict[str, Any], program: str) -> None:
+        self.library = made.library
+        self.packet = self.library.whole_packet_read(made.packet(event))
+        *_, walk = made.path(event)
+        self.first = made.first_routers(walk)[0]
+        ways = (hop.partition("#") for hop in walk.split(" "))
         ends = [(ia, int(numbers.partition(",")[0])) for ia, _, numbers in ways]
         self.entered = [(ia, made.ends[ia, number][0]) for ia, number in ends if number]
         self.routers = network.Routers(made, program, 2 * PACKETS, is_quiet=True)
         self.count = self.wrong = 0
 
-    def check(self, what, is_so):
+    def check(self, what: str, is_so: bool) -> None:
         self.count += 1
         if not is_so:
             self.wrong += 1
             print(f"udp: {what}")
 
-    def arrives(self, number, sender=None):
+    def arrives(self, number: int, sender: socket.socket | None = None) -> bool:
         """Whether the next packet that arrives is the one with this number as its payload."""
         payload, hosts = number.to_bytes(NUMBER_BYTES, "big"), self.routers.hosts
-        to = network.LOOPBACK, self.routers.ports[self.ia, 0]
-        (sender or hosts).sendto(self.packet + payload, to)
+        to = network.LOOPBACK, self.routers.ports[self.first]
+        packet = self.library.whole_packet_write(self.packet._replace(payload=payload))
+        (sender or hosts).sendto(packet, to)
         try:
-            return hosts.recv(1 << 16)[len(self.packet) :] == payload
+            return bool(self.library.whole_packet_read(hosts.recv(1 << 16)).payload == payload)
         except TimeoutError:
             return False
 
-    def cross(self, numbers):
+    def cross(self, numbers: Iterable[int]) -> None:
         self.routers.hosts.settimeout(network.SECONDS)
         for number in numbers:
             self.check(f"packet {number} did not arrive", self.arrives(number))
 
-    def stop_one(self):
+    def stop_one(self) -> None:
         """The last router that a link leads to is gone for a while."""
         owner = self.entered[-1]
         self.routers.kill(owner)
@@ -61,7 +64,7 @@ class Sent:
         self.check("a packet passed a router that is gone", not self.arrives(PACKETS))
         self.routers.begin(owner)
 
-    def strangers(self):
+    def strangers(self) -> None:
         """Sockets of another address with the ports of the hosts and of each router."""
         self.routers.hosts.settimeout(QUIET_SECONDS)
         ports = [self.routers.hosts.getsockname()[1], *self.routers.ports.values()]
@@ -71,9 +74,9 @@ class Sent:
                 taken = self.arrives(PACKETS + 1, stranger)
                 self.check(f"a packet of {ELSEWHERE}:{port} was taken", not taken)
 
-    def bad_keys(self):
+    def bad_keys(self) -> None:
         """Keys that are none. A router that takes one would end after a second."""
-        words = [self.routers.program, *map(str, self.routers.words(self.ia, 0))]
+        words = [self.routers.program, *map(str, self.routers.words(*self.first))]
         for key in BAD_KEYS:
             [words[1]], words[5], words[8] = map(str, network.free_ports(1)), key, "1"
             done = children.run(words, seconds=network.SECONDS)

@@ -109,9 +109,9 @@ NETWORKS = [
     Work("the lines of the core mesh", RUN, families.core_mesh, (128, 256), "segment new",
          Bound(3, 4, 160), is_beaconed=True),
     Work("beaconing layers", view("beacons"), families.layers, (256, 512), '{"do":"terminate"',
-         Bound(1.6, 1, 45)),
+         Bound(1.6, 1, 45), times=4),
     Work("the lines of the layers", RUN, families.layers, (256, 512), "segment new",
-         Bound(1.6, 1, 40), is_beaconed=True),
+         Bound(1.6, 1, 40), times=4, is_beaconed=True),
     # The paths between two of these ASes double with each layer: 34 times as many in all.
     Work("a report of all pairs, layers", view("report"), families.layers, (32, 64),
          "1-64 1-63 paths ", Bound(6.5, 4, 20), is_beaconed=True),

@@ -8,7 +8,7 @@ CASE: Case = {"name": "a packet", "stdin": "0a0b", "status": 0, "stdout": "link 
 FAULT: Case = {"name": "a fault", "stdin": "", "status": 1, "stdout": "no\n"}
 
 
-def answered(case, status, stdout, stderr=b""):
+def answered(case: Case, status: int, stdout: bytes, stderr: bytes = b"") -> str | None:
     """What is said of a run of a case."""
     return difference(case, CompletedProcess([], status, stdout, stderr))
 
@@ -42,14 +42,14 @@ class Cases(unittest.TestCase):
 
     def test_wrong_answers(self) -> None:
         told = {**FAULT, "stderr": "why"}
-        for case, run, word in (
-            (CASE, (1, b"link 2 0a0c\n"), "status 1, not 0"),
-            (CASE, (0, b"link 2 0a0c"), "output"),
-            (CASE, (0, b"link 2 0a0c\n", b"why"), "message"),
-            (FAULT, (1, b"no\n"), "message"),
-            (told, (1, b"no\n", b"other"), "not 'why'"),
+        for said, word in (
+            (answered(CASE, 1, b"link 2 0a0c\n"), "status 1, not 0"),
+            (answered(CASE, 0, b"link 2 0a0c"), "output"),
+            (answered(CASE, 0, b"link 2 0a0c\n", b"why"), "message"),
+            (answered(FAULT, 1, b"no\n"), "message"),
+            (answered(told, 1, b"no\n", b"other"), "not 'why'"),
         ):
-            self.assertRegex(answered(case, *run) or "nothing", word)
+            self.assertRegex(said or "nothing", word)
 
     def test_a_line_for_each_case(self) -> None:
         wrong = [("words", "a", "a: 1"), ("words", "a", "a: 2"), ("turns", "a", "a: 3")]

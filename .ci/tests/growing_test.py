@@ -25,8 +25,8 @@ class Growing(unittest.TestCase):
             self.assertAlmostEqual(found, grows)
 
     def test_too_short(self) -> None:
-        self.assertIsNone(exponent(WORK.sizes, [Cost(0.01, 1), Cost(0.2, 1)]))
-        self.assertRegex(only_fault(row(Cost(0.01, 1), Cost(0.2, 1))), "too few")
+        self.assertIsNone(exponent(WORK.sizes, [Cost(0.005, 1), Cost(0.2, 1)]))
+        self.assertRegex(only_fault(row(Cost(0.005, 1), Cost(0.2, 1))), "too few")
 
     def test_within(self) -> None:
         self.assertEqual([*faults_of(row(Cost(0.1, 9), Cost(0.2, 9)))], [])

@@ -17,7 +17,8 @@ TEST = "/// It is.\n#[test]\nfn it_is_read(rt: HostRuntime) {\n}\n"
 CASES = {"words": ["an address"], "workers": ["1 workers", "2 workers"]}
 
 
-def said(page=PAGE, test=TEST, cases=None):
+def said(page: str = PAGE, test: str = TEST,
+         cases: dict[str, list[str]] | None = None) -> tuple[list[str], int]:
     """The faults and the number of examples of a repository that has these."""
     with tempfile.TemporaryDirectory() as room:
         top = Path(room)

@@ -6,9 +6,11 @@
 
 The program is `router.c`, built. The lines are those of `scionet run`: a topology, and then the
 events that make segments, answers and packets. Here a hop's authenticator is that of
-`scion_hop_mac`, an answer that of `scion_paths`, and a packet of `send` is sent through the routers
-twice: as it is, and with another last byte of its header, which is in the last hop's authenticator.
-Events behind it are left out: routers take their turns when a packet comes.
+`scion_hop_mac`, and an answer that of `scion_paths`. For `send` a host sends its payload in a
+datagram of UDP, in a whole packet; the host that gets it prints it, and answers by the same data
+over the way back. Then the packet is sent with another last byte of its header, which is in the
+last hop's authenticator. Events behind `send` are left out: routers take their turns when a packet
+comes.
 
 It is an example of a host, and not proved. All sockets are on 127.0.0.1, and each process ends
 after some packets or seconds."""
@@ -24,10 +26,14 @@ TOP = os.path.dirname(os.path.dirname(os.path.dirname(os.path.realpath(__file__)
 sys.path.append(os.path.join(TOP, "bindings", "python"))
 sys.dont_write_bytecode = True
 
-from scion import Kind, Library  # noqa: E402
+from host import Datagram, answer, datagram_in, info_between, spelled  # noqa: E402
+from scion import Kind, Library, WholePacket  # noqa: E402
 
 LOOPBACK = "127.0.0.1"
 PACKETS, SECONDS = 100, 20
+
+# The ports of the host that asks and of the one that answers.
+ASKS, ANSWERS = 40_000, 7
 
 # The kinds of a link's interfaces: what the AS at the other end is to the AS at `a`, and at `b`.
 KINDS = {"core": (Kind.CORE, Kind.CORE), "child": (Kind.CHILD, Kind.PARENT)}
@@ -109,14 +115,27 @@ class Network:
         else:
             sys.exit(f"network: no event {event['do']} is known here")
 
-    def packet(self, event):
-        """The packet of an event `send`, its AS, and how many of its bytes are payload."""
+    def path(self, event):
+        """The ends of the path of an event `send`, its path header, and its walk."""
         asked, paths = self.answers[event["ask"]]
         path = paths[event["path"]]
-        print(f"path {path['walk']}", flush=True)
-        ends = [number_of(asked[it]).to_bytes(8, "big") for it in ("dst", "src")]
-        payload = bytes.fromhex(event["payload"])
-        return b"".join([*ends, bytes.fromhex(path["header"]), payload]), asked["src"], len(payload)
+        return asked["src"], asked["dst"], bytes.fromhex(path["header"]), path["walk"]
+
+    def packet(self, event):
+        """The whole packet of an event `send`, with its payload in a datagram of UDP."""
+        source, destination, header, _ = self.path(event)
+        info = info_between(number_of(source), number_of(destination))
+        datagram = Datagram(ASKS, ANSWERS, bytes.fromhex(event["payload"]))
+        packet = WholePacket(info, header, spelled(info, datagram))
+        return self.library.whole_packet_write(packet)
+
+    def first_routers(self, walk):
+        """The routers that own the way out of the source, and the way into the destination."""
+        hops = walk.split(" ")
+        (source, _, out), (destination, _, into) = (it.partition("#") for it in (hops[0], hops[-1]))
+        numbers = int(out.partition(",")[2]), int(into.partition(",")[0])
+        ends = zip((source, destination), numbers)
+        return [(ia, self.ends[ia, number][0]) for ia, number in ends]
 
 
 class Routers:
@@ -125,7 +144,7 @@ class Routers:
 
     def __init__(self, network, program, packets=PACKETS, is_quiet=False):
         self.network, self.program, self.packets = network, program, packets
-        self.hosts, self.children, self.is_quiet = bound(), {}, is_quiet
+        self.hosts, self.children, self.is_quiet, self.sent = bound(), {}, is_quiet, []
         self.hosts.settimeout(SECONDS)
         owners = [(ia, it) for ia, own in network.ases.items() for it in range(own["routers"])]
         self.held = {owner: bound() for owner in owners}
@@ -174,10 +193,14 @@ class Routers:
                 break
         sys.exit("network: a router ended, or said nothing for too long")
 
-    def send(self, packet, ia):
-        """Gives a packet to the first router of its AS, and tells its turns up to the last one."""
-        self.hosts.sendto(packet, (LOOPBACK, self.ports[ia, 0]))
+    def send(self, packet, router):
+        """Gives a packet to the first router on its way, and tells its turns up to the last one."""
+        self.hosts.sendto(packet, (LOOPBACK, self.ports[router]))
+        self.sent.append(packet)
         for line in self.told:
+            if line.startswith("sent "):
+                self.sent.append(bytes.fromhex(line[5:]))
+                continue
             print(line, flush=True)
             if line.endswith("delivered"):
                 return self.hosts.recv(1 << 16)
@@ -199,17 +222,41 @@ def prepared(lines):
     return network, next(it for it in events if it["do"] == "send")
 
 
+def told_datagram(library, received):
+    """Prints the datagram that a host has got."""
+    packet = library.whole_packet_read(received)
+    datagram = datagram_in(packet)
+    ports = f"from port {datagram.source} to {datagram.destination}"
+    print(f"a host received {datagram.data.hex()} {ports}", flush=True)
+    return datagram
+
+
+def ask_and_answer(network, event, routers):
+    """A datagram and the answer to it, each through the routers: the payload of the first packet."""
+    library = network.library
+    *_, walk = network.path(event)
+    source, destination = network.first_routers(walk)
+    packet = network.packet(event)
+    received = routers.send(packet, source) or sys.exit("network: the packet was refused")
+    data = told_datagram(library, received).data
+    reply = answer(library, received, data)
+    answered = routers.send(reply, destination) or sys.exit("network: the reply was refused")
+    if told_datagram(library, answered).data != data:
+        sys.exit("network: the answer has other data")
+    return library.whole_packet_read(packet).payload
+
+
 def main():
     network, event = prepared(map(json.loads, sys.stdin))
-    packet, ia, payload = network.packet(event)
+    *_, walk = network.path(event)
+    print(f"path {walk}", flush=True)
     routers = Routers(network, sys.argv[1])
     try:
-        received = routers.send(packet, ia) or sys.exit("network: the packet was refused")
-        print(f"received {received[len(received) - payload:].hex()}", flush=True)
-        changed = bytearray(packet)
-        changed[len(packet) - payload - 1] ^= 1
+        payload = ask_and_answer(network, event, routers)
+        packet = bytearray(network.packet(event))
+        packet[len(packet) - len(payload) - 1] ^= 1
         print("a byte of the last hop's authenticator is changed", flush=True)
-        if routers.send(changed, ia) is not None:
+        if routers.send(packet, network.first_routers(walk)[0]) is not None:
             sys.exit("network: the changed packet was delivered")
     finally:
         routers.end()

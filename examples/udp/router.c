@@ -3,20 +3,20 @@
  *
  *     router PORT NAME IA NUMBER KEY NOW PACKETS SECONDS HOST PEER..
  *
- * It is an example of a host, and not proved: scion_step is, to which it gives each packet. It
- * binds 127.0.0.1 alone, and ends after so many packets or seconds. If standard input is a socket,
- * that is bound to PORT already, so that nobody else gets the port. IA and KEY are hexadecimal; NOW
- * is the second at which all packets come, where another host would read its clock. HOST is the
- * port of the hosts of the AS. A peer is one of
+ * It is an example of a host, and not proved: scion_whole_packet_step is, to which it gives each
+ * packet. It binds 127.0.0.1 alone, and ends after so many packets or seconds. If standard input is
+ * a socket, that is bound to PORT already, so that nobody else gets the port. IA and KEY are
+ * hexadecimal; NOW is the second at which all packets come, where another host would read its
+ * clock. HOST is the port of the hosts of the AS. A peer is one of
  *
  *     link:NUMBER:KIND:ROUTER:PORT   an interface of the AS, the router that owns it, and the port
  *                                    of the router at the far end of its link
  *     router:NUMBER:PORT             another router of the AS
  *
- * A datagram is a packet. The port that it came from says how it came, never what is in it: from
- * the far end of a link, from a router of the AS, or else from a host. So two routers have at most
- * one link between them. Links, routers and hosts have the address 127.0.0.1: what comes from
- * another one is left out, whatever its port. */
+ * A datagram is a whole packet, as between border routers. The port that it came from says how it
+ * came, never what is in it: from the far end of a link, from a router of the AS, or else from a
+ * host. So two routers have at most one link between them. Links, routers and hosts have the
+ * address 127.0.0.1: what comes from another one is left out, whatever its port. */
 #include <arpa/inet.h>
 #include <scion.h>
 #include <stdio.h>
@@ -100,10 +100,17 @@ static uint16_t way_out(scion_answer answer, uint16_t host) {
     return 0;
 }
 
-/* A line about a turn, which is written before the packet goes on, so that lines are in order. A
- * router with the name `-` writes none. */
-static void tell(const char *name, uint8_t arrival, uint16_t interface, scion_answer answer) {
+/* A line about a turn, which is written before the packet goes on, so that lines are in order; and
+ * before it, if the packet goes on, a line with its bytes. A router with the name `-` writes
+ * none. */
+static void tell(const char *name, uint8_t arrival, uint16_t interface, scion_answer answer,
+                 size_t len) {
     if (name[0] == '-' && !name[1]) return;
+    if (answer.code <= SCION_DELIVER) {
+        printf("sent ");
+        for (size_t i = 0; i < len; i++) printf("%02x", packet[i]);
+        printf("\n");
+    }
     printf("%s router %u: ", name, self.router);
     if (arrival == SCION_OVER_LINK) printf("by link %u, ", interface);
     if (arrival == SCION_INSIDE) printf("from inside, ");
@@ -134,8 +141,9 @@ static int forward(int on, const char *name, uint32_t now, uint16_t host) {
     if (from.sin_family != AF_INET || from.sin_addr.s_addr != htonl(INADDR_LOOPBACK)) return 0;
     uint16_t interface;
     uint8_t arrival = way_in(ntohs(from.sin_port), &interface);
-    scion_answer answer = scion_step(&self, now, arrival, interface, packet, (size_t)len);
-    tell(name, arrival, interface, answer);
+    scion_answer answer =
+        scion_whole_packet_step(&self, now, arrival, interface, packet, (size_t)len);
+    tell(name, arrival, interface, answer, (size_t)len);
     uint16_t port = way_out(answer, host);
     struct sockaddr_in to = loopback(port);
     if (port && sendto(on, packet, (size_t)len, 0, (struct sockaddr *)&to, sizeof to) != len)

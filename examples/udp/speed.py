@@ -47,7 +47,7 @@ def main():
     program, load = sys.argv[1:3]
     packets = int(sys.argv[3]) if sys.argv[3:] else 200_000
     made, event = network.prepared(map(json.loads, sys.stdin))
-    packet, ia, _ = made.packet(event)
+    packet, ia = made.packet(event), made.path(event)[0]
     router = echo = 0.0
     for _ in range(RUNS):
         router = max(router, through_router(made, ia, program, load, packets, packet))

@@ -1,6 +1,7 @@
 -- A beaconing: none of any event, one event more, and the run that it is.
-use Rattle.std.proofs.Common.{arith, ◌≡◌, ℕ, true, List, [], ◌∷◌, ◌++◌, All, Option, Some, refl, sym, ap, ◌∙◌, subst}
-use Rattle.std.specs.Prelude.{nat_le, option_map, Ok}
+use Rattle.std.proofs.Common.{arith, ◌≡◌, ℕ, true, false, List, [], ◌∷◌, ◌++◌, All, Option, Some, refl, sym, ap, ◌∙◌, subst, inl, inr}
+use Rattle.std.specs.Prelude.{nat_le, nat_lt, ◌^◌, option_map, Ok}
+use Rattle.std.proofs.lemmas.Bool.{cases_Bool}
 use Rattle.std.proofs.lemmas.Bool.Decides.{nat_tests}
 use Rattle.refusal.specs.Refusal.{◌>>=◌, check}
 use Rattle.std.proofs.lemmas.List.{map-append}
@@ -9,6 +10,7 @@ use Rattle.scion_topology.specs.Network.{Network}
 use Rattle.network_core.specs.declared.fault.EventFault.TheVariants as faults
 use Rattle.network_core.specs.declared.reply.Reply.{Reply}
 use Rattle.network_core.specs.declared.reply.Reply.TheVariants.{Done}
+use Rattle.network_core.specs.declared.reply.Reply.TheVariants as replies
 use Rattle.network_core.specs.Event.{EventValue, Tick}
 use Rattle.network_core.specs.Value.{NetValue, new_net}
 use Rattle.network_core.specs.Step.{Leads, Step, ticks}
@@ -16,8 +18,11 @@ use Rattle.network_core.specs.History.{EventRecord, IsHistory, net_after}
 use Rattle.network_core.specs.Delivery.{IsFramed}
 use Rattle.beacon_lines.specs.declared.event.BeaconEvent.{BeaconEvent}
 use Rattle.beacon_lines.specs.declared.event.BeaconEvent.TheVariants as events
+use Rattle.beacon_lines.specs.declared.event.Effect.{Effect}
 use Rattle.beacon_lines.specs.Beaconing.{IsBeaconing, IsOfBeaconing, StaysStored, brings_new, network_event}
-use Rattle.beacon_lines.proofs.Growing.{done_of, grows, stays}
+use Rattle.beacon_lines.specs.inner.Events.{Happens, effect_of, is_new}
+use Rattle.beacon_lines.specs.inner.Search.{begun_net}
+use Rattle.beacon_lines.proofs.Growing.{done_of, grows, stays, unchanged}
 
 -- the first event sets the second, and is not refused
 no_earlier : (now : ℕ) → nat_le 0 now ≡ true
@@ -123,3 +128,46 @@ pub image_is : {A B : Type 0} (f : A → B) (found : Option A) (one : A) (image 
     → found ≡ Some one
     → option_map f found ≡ Some image → f one ≡ image
 image_is f found one image is mapped = (let same = sym (ap (option_map f) is) ∙ mapped in cc)
+
+-- an effect is new where its reply brings something new
+pub new_effect : (reply : Reply) → is_new (effect_of reply) ≡ brings_new reply
+new_effect (replies.Refused fault) = refl
+new_effect (replies.Registered new) = refl
+new_effect (replies.Begun beacon) = elim (cases_Bool (nat_lt beacon (2 ^ 32))) [
+  | inl small ↦ rw small refl
+  | inr large ↦ rw large refl
+]
+new_effect replies.Done = refl
+new_effect (replies.Swept count) = refl
+new_effect (replies.Answered answer) = refl
+new_effect (replies.Sent packet) = refl
+new_effect (replies.Turned turn) = refl
+
+-- the network of a new run
+pub begun_as : (n : Network) (now : ℕ) (reply : Reply) (net : NetValue)
+    → Step (new_net n) (Tick now) reply net → net ≡ begun_net n now
+begun_as n now reply net step = (led_by_tick n now reply net step).1
+
+-- an event that brings nothing new leaves the run as it was
+pub stays_as : (net new : NetValue) (now : ℕ) (events : List EventValue) (event : BeaconEvent)
+    (effect : Effect)
+    → IsBeaconing net.network now events net → Happens net event effect new → is_new effect ≡ false
+    → IsBeaconing new.network now events new
+stays_as net new now events event effect b happens none =
+    let brings : brings_new happens.reply ≡ false = sym (new_effect happens.reply)
+    ∙ (ap is_new (sym happens.says) ∙ none) in
+    let kept : new ≡ net = unchanged net new (network_event event) happens.reply (is_own event)
+    happens.step brings in
+    subst (λ (n : NetValue). IsBeaconing n.network now events n) (sym kept) b
+
+-- an event that brings something new goes on
+pub goes_as : (net new : NetValue) (now : ℕ) (events : List EventValue) (event : BeaconEvent)
+    (effect : Effect)
+    → IsBeaconing net.network now events net → (happens : Happens net event effect new)
+    → IsFramed (network_event event) happens.reply new → is_new effect ≡ true
+    → IsBeaconing new.network now (events ++ network_event event ∷ []) new
+goes_as net new now events event effect b happens framed new_is =
+    let brings : brings_new happens.reply ≡ true = sym (new_effect happens.reply)
+    ∙ (ap is_new (sym happens.says) ∙ new_is) in
+    next net new now events (network_event event) happens.reply b happens.step framed brings
+    (is_own event)

@@ -2,3 +2,13 @@ pub mod Growing
 pub mod Going
 pub mod Saying
 pub mod InLine
+pub mod Leading
+pub mod Bound
+pub mod Counting
+pub mod Leaving
+pub mod Sending
+pub mod Spreads
+pub mod Trying
+pub mod Arriving
+pub mod Exploring
+pub mod Serving

@@ -1,2 +1,4 @@
+pub mod Reach
 pub mod Beaconing
 pub mod Lines
+pub mod inner

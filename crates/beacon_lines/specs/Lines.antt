@@ -1,13 +1,16 @@
 -- The lines of a beaconing.
-use Rattle.std.specs.Prelude.{◌≡◌, ℕ, ◌==◌, ◌||◌, if◌then◌else◌, codes, List, [], ◌∷◌, ◌++◌, map, flat_map, Ok}
+use Rattle.std.specs.Prelude.{◌≡◌, ℕ, ◌<◌, ◌==◌, ◌||◌, true, if◌then◌else◌, codes, List, [], ◌∷◌, ◌++◌, map, flat_map, Ok}
 use Rattle.std.specs.Fmt.{decimal}
 use Rattle.isd_as.specs.Address.{canonical}
 use Rattle.scion_topology.specs.Network.{Network}
 use Rattle.scion_topology.specs.Topology.{network_in}
 use Rattle.network_core.specs.Event.{EventValue, Tick, Originate, Extend, Terminate}
 use Rattle.network_core.specs.Value.{NetValue}
+use Rattle.network_core.specs.Step.{has_room}
 use Rattle.network_core.specs.Ran.{IsRun}
+use Rattle.beacon_lines.specs.declared.options.BeaconingOptions.{BeaconingOptions}
 use Rattle.beacon_lines.specs.Beaconing.{IsBeaconing}
+use Rattle.beacon_lines.specs.Reach.{IsComplete, KeepsOptions}
 
 -- the byte as it stands in one line: a line feed or a carriage return, which JSON has only between
 -- its tokens, is a space
@@ -35,12 +38,16 @@ event_line (Terminate beacon ia) =
 event_line event = []
 
 -- the text is the line of a topology and the lines of a beaconing of its network, whose beacons are
--- all begun at the second `now`
-pub record AreBeaconLines (now : ℕ) (line text : List ℕ) : Type 0 where
+-- all begun at the second of the options. It keeps the options; and it is complete, unless no
+-- segments are wanted or the network has as many beacons as it can hold
+pub record AreBeaconLines (options : BeaconingOptions) (line text : List ℕ) : Type 0 where
   pub network : Network
   pub topology : network_in line ≡ Ok network
   pub events : List EventValue
   pub net : NetValue
-  pub beaconing : IsBeaconing network now events net
+  pub beaconing : IsBeaconing network options.now events net
   pub run : IsRun network beaconing.history
-  pub says : text ≡ line ++ (codes "\n" ++ flat_map event_line (Tick now ∷ events))
+  pub kept : KeepsOptions options net.segments
+  pub complete : 0 < options.per_pair → has_room net.beacons ≡ true
+      → IsComplete options network net.segments
+  pub says : text ≡ line ++ (codes "\n" ++ flat_map event_line (Tick options.now ∷ events))

@@ -1,6 +1,7 @@
-ghost use Rattle.std.specs.Prelude.{◌≡◌, is_some, option_map, Some};
+ghost use Rattle.std.specs.Prelude.{◌≡◌, option_map, Some};
 ghost use Rattle.network_core.specs.Event as events;
-ghost use Rattle.beacon_lines.specs.Beaconing.{brings_new, network_event};
+ghost use Rattle.beacon_lines.specs.Beaconing.{network_event};
+ghost use Rattle.beacon_lines.specs.inner.Events.{effect_of, is_new, is_stored};
 
 use isd_as::{IfId, IsdAs};
 use network_core::{Event, Reply};
@@ -27,27 +28,51 @@ pub(crate) enum BeaconEvent {
     },
 }
 
-/// What an event that was done has made.
+/// What an event has made.
 #[derive(Clone, Copy)]
 pub(crate) enum Effect {
     /// The beacon of this number.
     Begun(u32),
+    /// A segment is stored. `true` if it was not stored before.
+    Stored(bool),
     /// Something else.
     Done,
+    /// Nothing: the event was refused.
+    Refused,
 }
 
-/// What an event made, by its reply; `None` if it was refused, or has registered a segment that was
-/// stored before.
-pub(crate) fn effect_of(reply: Reply) -> Option<Effect>
-    ensures { is_some result ≡ brings_new reply }
+impl Effect {
+    /// Whether something is there that was not there before.
+    pub(crate) fn is_new(self) -> bool
+        ensures { result ≡ is_new self }
+    {
+        match self {
+            Self::Begun(_) | Self::Done => true,
+            Self::Stored(new) => new,
+            Self::Refused => false,
+        }
+    }
+
+    /// Whether a segment is stored now.
+    pub(crate) fn is_stored(self) -> bool
+        ensures { result ≡ is_stored self }
+    {
+        matches!(self, Self::Stored(_))
+    }
+}
+
+/// What an event made, by its reply.
+pub(crate) fn effect_of(reply: Reply) -> Effect
+    ensures { result ≡ effect_of reply }
 {
     match reply {
-        Reply::Refused(_) | Reply::Registered(false) => None,
+        Reply::Refused(_) => Effect::Refused,
+        Reply::Registered(new) => Effect::Stored(new),
         Reply::Begun(beacon) => match u32::try_from(beacon) {
-            Ok(beacon) => Some(Effect::Begun(beacon)),
-            Err(_) => Some(Effect::Done),
+            Ok(beacon) => Effect::Begun(beacon),
+            Err(_) => Effect::Done,
         },
-        _ => Some(Effect::Done),
+        _ => Effect::Done,
     }
 }
 

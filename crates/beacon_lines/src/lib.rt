@@ -4,6 +4,7 @@
 //! Each event is done in a network of its own, and its line is written only if it was not refused.
 #![tactic(auto)]
 
+mod arrivals;
 mod event;
 mod line;
 mod lines;

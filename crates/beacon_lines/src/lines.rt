@@ -5,9 +5,9 @@ ghost use Rattle.refusal.specs.declared.fault.OrMemory.{OrMemory};
 ghost use Rattle.scion_topology.specs.declared.fault.TopologyFault.{TopologyFault};
 ghost use Rattle.scion_topology.specs.Topology.{network_in};
 ghost use Rattle.network_core.specs.Event.{Tick};
-ghost use Rattle.network_core.specs.Value.{new_net};
 ghost use Rattle.beacon_lines.specs.Beaconing.{network_event};
 ghost use Rattle.beacon_lines.specs.Lines.{AreBeaconLines, byte_in_line, event_line, one_line};
+ghost use Rattle.beacon_lines.specs.inner.Search.{begun_net, IsServedAll};
 
 use crate::event::BeaconEvent;
 use crate::line::{push_line, push_tick};
@@ -48,9 +48,11 @@ fn beaconing_of(
     topology: Topology,
     options: &BeaconingOptions,
 ) -> Result<BeaconRun, AllocError>
-    ensures network { IfOk result (λ run. run.net.network ≡ topology) }
     ensures second { IfOk result (λ run. run.second ≡ options.entry.now.now) }
+    ensures served { IfOk result (λ run. IsServedAll options.entry.now
+        (begun_net topology options.entry.now.now) run.net) }
 {
+    topology.known();
     let graph = SearchGraph::of(alloc, &topology)?;
     let mut run = BeaconRun::new(alloc, topology, options.now)?;
     graph.spread(alloc, &mut run, options)?;
@@ -90,7 +92,7 @@ fn text_of(
 /// The lines of a complete beaconing of the topology in this line, which is the first of them.
 fn lines_from(alloc: Global, line: &str, options: &BeaconingOptions) -> Result<String, ReadError>
     ensures lines { IfOk result
-        (λ text. AreBeaconLines options.entry.now.now line.now (string_bytes text)) }
+        (λ text. AreBeaconLines options.entry.now line.now (string_bytes text)) }
     ensures refused { IfErr result (λ error. (fault : TopologyFault)
         → error ≡ OrMemory.Refused fault → network_in line.now ≡ Err fault) }
 {
@@ -107,7 +109,7 @@ fn lines_of_bytes(
     options: &BeaconingOptions,
 ) -> Result<String, ReadError>
     ensures lines { IfOk result
-        (λ text. AreBeaconLines options.entry.now.now line.now (string_bytes text)) }
+        (λ text. AreBeaconLines options.entry.now line.now (string_bytes text)) }
     ensures refused { IfErr result (λ error. (fault : TopologyFault)
         → error ≡ OrMemory.Refused fault → network_in line.now ≡ Err fault) }
     ensures wanted { IfErr result (λ error. error ≡ OrMemory.Memory
@@ -122,8 +124,9 @@ fn lines_of_bytes(
 /// The lines of a complete beaconing of a topology, as `scionet run` takes them: the topology, the
 /// second, and the events that make the segments. Each core AS begins beacons over its links. Each
 /// AS ends and passes on the first of one origin that reach it, as many as are wanted: beacons go
-/// down over child links, and from core AS to core AS over core links. So an AS that has a segment
-/// of at most 63 entries from a core AS gets one.
+/// down over child links, and from core AS to core AS over core links. So each AS that a core AS
+/// reaches within 63 entries gets a segment from it, unless the network would need more than a
+/// million beacons, and a core AS if it is reached within the wanted entries.
 ///
 /// The topology is one JSON text of one or more lines. If it is refused, its fault is returned.
 /// Memory can run out only if the bytes are UTF-8.
@@ -137,7 +140,7 @@ pub fn beacon_lines(
     options: &BeaconingOptions,
 ) -> Result<String, ReadError>
     ensures lines { IfOk result (λ text.
-        AreBeaconLines options.entry.now.now (one_line topology.items) (string_bytes text)) }
+        AreBeaconLines options.entry.now (one_line topology.items) (string_bytes text)) }
     ensures refused { IfErr result (λ error. (fault : TopologyFault)
         → error ≡ OrMemory.Refused fault → network_in (one_line topology.items) ≡ Err fault) }
     ensures wanted { IfErr result (λ error. error ≡ OrMemory.Memory

@@ -7,7 +7,7 @@ pub const MAX_PER_PAIR: usize = MAX_ALIKE;
 #[derive(Clone, Copy)]
 pub struct BeaconingOptions {
     /// How many beacons of one origin an AS ends and passes on: the first that reach it, shorter
-    /// ones first. A path store takes at most [`MAX_PER_PAIR`] of their segments.
+    /// ones first. More than [`MAX_PER_PAIR`] count as that many.
     pub per_pair: usize,
     /// The most entries of a core segment.
     pub core_len: usize,

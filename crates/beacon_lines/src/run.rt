@@ -1,16 +1,21 @@
 //! A network in which beacons are begun, passed on and ended, and the events by which they were.
 
-ghost use Rattle.std.specs.Prelude.{◌≡◌, IfOk, is_some, map, OnErr};
+ghost use Rattle.std.specs.Prelude.{◌≡◌, ◌==◌, false, IfOk, map, OnErr, slice_get};
+ghost use Rattle.std.specs.List.{list_any};
+ghost use Rattle.std.specs.Option.{option_map_or};
 ghost use Rattle.network_core.specs.declared.reply.Reply as replies;
 ghost use Rattle.network_core.specs.Event.{event_value};
-ghost use Rattle.network_core.specs.Value.{new_net};
 ghost use Rattle.network_core.specs.Step.{Step};
 ghost use Rattle.network_core.specs.Delivery.{IsFramed};
-ghost use Rattle.beacon_lines.specs.Beaconing.{brings_new, network_event};
+ghost use Rattle.beacon_lines.specs.Beaconing.{network_event};
+ghost use Rattle.beacon_lines.specs.inner.Events.{effect_of, Happens, has_passed};
+ghost use Rattle.beacon_lines.specs.inner.Search.{begun_net};
 
 use crate::event::{BeaconEvent, Effect, effect_of};
 use forwarding::TurnReply;
+use isd_as::IsdAs;
 use network_core::{Event, Net, Reply};
+use path_segment::{Beacon, Entry};
 use scion_topology::Topology;
 use std::alloc::{AllocError, Global};
 use std::marker::Model;
@@ -51,10 +56,10 @@ struct DueEvent<'a> {
 }
 
 /// Does an event in a network, and returns what it made. If it is refused, or registers a segment
-/// that is stored already, nothing changes, and `None` is returned.
-fn happen(alloc: Global, net: &mut Net, due: &DueEvent<'_>) -> Result<Option<Effect>, AllocError>
+/// that is stored already, nothing changes.
+fn happen(alloc: Global, net: &mut Net, due: &DueEvent<'_>) -> Result<Effect, AllocError>
     ensures done { IfOk result (λ effect. (reply : replies.Reply)
-        × ((is_some effect ≡ brings_new reply)
+        × ((effect ≡ effect_of reply)
         × (Step net.old (event_value due.now.event) reply net.new
         × IsFramed (event_value due.now.event) reply net.new))) }
     ensures kept { OnErr result (net.new ≡ net.old) }
@@ -62,15 +67,34 @@ fn happen(alloc: Global, net: &mut Net, due: &DueEvent<'_>) -> Result<Option<Eff
     let reply = net.step(alloc, &due.event)?;
     // The borrow checker has to be told of the types in a reply.
     if let Reply::Turned(TurnReply::Went(_)) = reply {
-        return Ok(Some(Effect::Done));
+        return Ok(Effect::Done);
     }
     Ok(effect_of(reply))
+}
+
+/// Whether one of the entries is of this AS.
+fn is_named(entries: &[Entry], ia: IsdAs) -> bool
+    ensures { result ≡ list_any (λ entry. entry.ia == ia) entries.now }
+{
+    entries.iter().any(|entry| entry.ia == ia)
+}
+
+/// Whether the beacon of this number has an entry of this AS.
+fn has_entry(beacons: &[Beacon], number: usize, ia: IsdAs) -> bool
+    ensures { result ≡ option_map_or (λ chain. list_any (λ entry. entry.ia == ia) chain.entries)
+        (slice_get beacons.now number) false }
+{
+    match beacons.get(number) {
+        Some(beacon) => is_named(beacon.entries(), ia),
+        None => false,
+    }
 }
 
 impl BeaconRun {
     /// A network of this topology at the second `now`, and no event after that.
     pub(crate) fn new(alloc: Global, topology: Topology, now: u32) -> Result<BeaconRun, AllocError>
-        ensures network { IfOk result (λ run. run.net.network ≡ topology) }
+        ensures net { IfOk result
+            (λ run. run.net ≡ begun_net topology now) }
         ensures second { IfOk result (λ run. run.second ≡ now) }
     {
         let mut net = Net::new(alloc, topology);
@@ -97,24 +121,33 @@ impl BeaconRun {
         &self.events
     }
 
+    /// Whether the beacon of this number has an entry of this AS.
+    pub(crate) fn has_passed(&self, beacon: u32, ia: IsdAs) -> bool
+        ensures { result ≡ has_passed self.now.net beacon ia }
+    {
+        has_entry(self.net.beacons(), beacon as usize, ia)
+    }
+
     /// Tries an event, and returns what it made. If it is refused, or registers a segment that is
-    /// stored already, nothing changes, and `None` is returned.
+    /// stored already, nothing changes.
     pub(crate) fn attempt(
         &mut self,
         alloc: Global,
         event: &BeaconEvent,
-    ) -> Result<Option<Effect>, AllocError>
-        ensures network { self.new.net.network ≡ self.old.net.network }
+    ) -> Result<Effect, AllocError>
+        ensures happens { IfOk result
+            (λ effect. Happens self.old.net event.now effect self.new.net) }
         ensures second { self.new.second ≡ self.old.second }
     {
         self.events.try_reserve(1)?;
         let Some(due) = event.of_network() else {
-            return Ok(None);
+            return Ok(Effect::Refused);
         };
-        let Some(effect) = happen(alloc, &mut self.net, &DueEvent { event: due })? else {
-            return Ok(None);
-        };
+        let effect = happen(alloc, &mut self.net, &DueEvent { event: due })?;
+        if !effect.is_new() {
+            return Ok(effect);
+        }
         let _ = self.events.push(*event);
-        Ok(Some(effect))
+        Ok(effect)
     }
 }

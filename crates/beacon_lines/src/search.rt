@@ -1,142 +1,92 @@
 //! Beacons from one origin, each passed on by the first ASes that it reaches.
 
-ghost use Rattle.std.specs.Prelude.{◌≡◌};
+ghost use Rattle.std.specs.Prelude.{◌≡◌, ◌+◌, ◌^◌, ◌<◌, ◌&&◌, not, ℕ, IfOk, IsTrue, OnOk};
+ghost use Rattle.beacon_lines.specs.declared.event.BeaconEvent.TheVariants as events;
+ghost use Rattle.beacon_lines.specs.inner.Events.{has_passed};
+ghost use Rattle.beacon_lines.specs.inner.Spreading.{Sends, SendsIf, wants};
+ghost use Rattle.beacon_lines.specs.inner.Search.{core_at, IsGraphOf, Serves, ServesAll, ServesBoth, ways_for};
 
+use crate::arrivals::{Arrival, Arrivals};
 use crate::event::{BeaconEvent, Effect};
-use crate::options::BeaconingOptions;
+use crate::options::{BeaconingOptions, MAX_PER_PAIR};
 use crate::run::BeaconRun;
 use crate::ways::{WayOut, WaysOut};
 use isd_as::IsdAs;
-use path_segment::MAX_SEGMENT_LEN;
+use path_segment::{MAX_SEGMENT_LEN, SegKind};
 use scion_topology::{LinkClass, Topology};
 use std::alloc::{AllocError, Global};
 
-/// The largest number of segments to each AS, and of the entries of each.
+/// Which segments an origin is to have: of which kind, how many to each AS, and of how many entries
+/// at most.
 #[derive(Clone, Copy)]
-struct Limits {
+struct Wanted {
+    kind: SegKind,
     per_pair: usize,
     entries: usize,
 }
 
-/// A beacon that has reached an AS and was ended there.
-#[derive(Clone, Copy)]
-struct Arrival {
-    /// The place of the AS.
-    place: usize,
-    /// The arrival after which the beacon was passed on; `None` if it comes from the origin.
-    before: Option<usize>,
-    /// The number of the beacon.
-    beacon: u32,
-    /// The number of entries of its segment.
-    entries: usize,
-}
-
-impl WayOut {
-    /// The arrival of a beacon that goes by this way.
-    fn arrival(self, before: Option<usize>, beacon: u32, entries: usize) -> Arrival {
-        Arrival {
-            place: self.to,
-            before,
-            beacon,
-            entries,
-        }
-    }
-}
-
 /// The beacons of one origin.
 #[derive(Drop)]
-struct OriginBeacons<'a> {
-    ases: &'a [IsdAs],
-    limits: Limits,
-    origin: usize,
-    /// The beacons that were ended, in the order of their entries and then of their interfaces.
-    arrivals: Vec<Arrival>,
-    /// How many of them were ended in each AS.
-    counts: Vec<usize>,
+struct Spread {
+    wanted: Wanted,
+    arrivals: Arrivals,
 }
 
-impl<'a> OriginBeacons<'a> {
-    /// No beacon of the AS at this place.
-    fn new(
-        alloc: Global,
-        ases: &'a [IsdAs],
-        origin: usize,
-        limits: Limits,
-    ) -> Result<OriginBeacons<'a>, AllocError> {
-        Ok(OriginBeacons {
-            ases,
-            limits,
-            origin,
-            arrivals: Vec::new(alloc),
-            counts: vec![in alloc; 0; ases.len()]?,
-        })
+impl Spread {
+    /// Whether one more beacon is to go by this way, after this number of entries.
+    fn wants(&self, way: &WayOut, entries: usize) -> bool
+        ensures value { result ≡ wants self.now.wanted way.now entries self.now.arrivals }
+        ensures bound { IsTrue result → entries + 1 < 2 ^ 64 }
+    {
+        entries < self.wanted.entries && self.arrivals.count(way.far) < self.wanted.per_pair
     }
 
-    /// Whether a beacon that comes from this arrival has passed the AS at this place.
-    fn has_passed(&self, arrival: Option<usize>, place: usize) -> bool {
-        let mut next = arrival;
-        for _ in 0..MAX_SEGMENT_LEN {
-            match next.and_then(|number| self.arrivals.get(number)) {
-                Some(one) if one.place == place => return true,
-                Some(one) => next = one.before,
-                None => break,
-            }
-        }
-        place == self.origin
-    }
-
-    /// Whether the AS at this place is to end and pass on one more beacon, which comes from this
-    /// arrival.
-    fn is_wanted(&self, arrival: Option<usize>, place: usize) -> bool {
-        let has_room = self
-            .counts
-            .get(place)
-            .is_some_and(|count| *count < self.limits.per_pair);
-        has_room && !self.has_passed(arrival, place)
-    }
-
-    /// Ends a beacon in the AS at this place, where it may be passed on later.
-    fn end(
+    /// Does an event that sends a beacon by this way, and ends the beacon at the far end, where it
+    /// may be passed on later. Its segment has this number of entries.
+    fn send(
         &mut self,
         alloc: Global,
         run: &mut BeaconRun,
-        arrival: Arrival,
+        event: &BeaconEvent,
+        way: &WayOut,
+        entries: usize,
     ) -> Result<(), AllocError>
-        ensures network { run.new.net.network ≡ run.old.net.network }
         ensures second { run.new.second ≡ run.old.second }
+        ensures wanted { self.new.wanted ≡ self.old.wanted }
+        ensures sends { OnOk result (Sends event.now way.now entries run.old.net self.old.arrivals
+            run.new.net self.new.arrivals) }
     {
-        let (beacon, place) = (arrival.beacon, arrival.place);
-        let Some(ia) = self.ases.get(place).copied() else {
+        let Effect::Begun(beacon) = run.attempt(alloc, event)? else {
             return Ok(());
         };
+        let ia = way.far;
         let effect = run.attempt(alloc, &BeaconEvent::Terminate { beacon, ia })?;
-        if effect.is_some() {
-            self.arrivals.push(arrival)?;
-            if let Some(count) = self.counts.get_mut(place) {
-                *count = count.saturating_add(1);
-            }
+        if effect.is_stored() {
+            self.arrivals.add(Arrival {
+                ia,
+                beacon,
+                entries,
+            })?;
         }
         Ok(())
     }
 
     /// Begins a beacon by this way out of the origin.
-    fn begin(&mut self, alloc: Global, run: &mut BeaconRun, way: WayOut) -> Result<(), AllocError>
-        ensures network { run.new.net.network ≡ run.old.net.network }
+    fn begin(&mut self, alloc: Global, run: &mut BeaconRun, way: &WayOut) -> Result<(), AllocError>
         ensures second { run.new.second ≡ run.old.second }
+        ensures wanted { self.new.wanted ≡ self.old.wanted }
+        ensures sends { OnOk result ((beta0 : ℕ)
+            × SendsIf (wants self.old.wanted way.now 1 self.old.arrivals)
+            (events.Originate way.now.near way.now.egress beta0) way.now 2
+            run.old.net self.old.arrivals run.new.net self.new.arrivals) }
     {
-        let Some(ia) = self.ases.get(self.origin).copied() else {
-            return Ok(());
-        };
-        if self.limits.entries < 2 || !self.is_wanted(None, way.to) {
+        if !self.wants(way, 1) {
             return Ok(());
         }
         let beta0 = (run.events().len() % 65_536) as u16;
-        let egress = way.egress;
+        let (ia, egress) = (way.near, way.egress);
         let event = BeaconEvent::Originate { ia, egress, beta0 };
-        match run.attempt(alloc, &event)? {
-            Some(Effect::Begun(beacon)) => self.end(alloc, run, way.arrival(None, beacon, 2)),
-            _ => Ok(()),
-        }
+        self.send(alloc, run, &event, way, 2)
     }
 
     /// Passes on the beacon of this arrival by this way.
@@ -144,120 +94,138 @@ impl<'a> OriginBeacons<'a> {
         &mut self,
         alloc: Global,
         run: &mut BeaconRun,
-        number: usize,
-        way: WayOut,
+        from: &Arrival,
+        way: &WayOut,
     ) -> Result<(), AllocError>
-        ensures network { run.new.net.network ≡ run.old.net.network }
         ensures second { run.new.second ≡ run.old.second }
+        ensures wanted { self.new.wanted ≡ self.old.wanted }
+        ensures sends { OnOk result
+            (SendsIf (wants self.old.wanted way.now from.now.entries self.old.arrivals
+            && not (has_passed run.old.net from.now.beacon way.now.far))
+            (events.Extend from.now.beacon way.now.near way.now.egress) way.now
+            (from.now.entries + 1) run.old.net self.old.arrivals run.new.net self.new.arrivals) }
     {
-        let Some(old) = self.arrivals.get(number).copied() else {
-            return Ok(());
-        };
-        let Some(ia) = self.ases.get(old.place).copied() else {
-            return Ok(());
-        };
-        if self.limits.entries <= old.entries || !self.is_wanted(Some(number), way.to) {
+        if !self.wants(way, from.entries) || run.has_passed(from.beacon, way.far) {
             return Ok(());
         }
-        let (beacon, egress) = (old.beacon, way.egress);
+        let (beacon, ia, egress) = (from.beacon, way.near, way.egress);
         let event = BeaconEvent::Extend { beacon, ia, egress };
-        match run.attempt(alloc, &event)? {
-            Some(Effect::Begun(beacon)) => {
-                let entries = old.entries + 1;
-                self.end(alloc, run, way.arrival(Some(number), beacon, entries))
-            }
-            _ => Ok(()),
-        }
+        self.send(alloc, run, &event, way, from.entries + 1)
     }
 }
 
-/// Has the AS at this place begin beacons, and each AS pass on and end the first that reach it.
-///
-/// A beacon reaches an AS before another if it has fewer entries, or as many and comes first by its
-/// interfaces. No beacon passes an AS twice.
-fn spread_from(
-    alloc: Global,
-    run: &mut BeaconRun,
-    ases: &[IsdAs],
-    ways: &WaysOut,
-    origin: usize,
-    limits: Limits,
-) -> Result<(), AllocError>
-    ensures network { run.new.net.network ≡ run.old.net.network }
-    ensures second { run.new.second ≡ run.old.second }
-{
-    let mut beacons = OriginBeacons::new(alloc, ases, origin, limits)?;
-    for way in ways.out_of(origin) {
-        beacons.begin(alloc, run, *way)?;
-    }
-    for number in 0..usize::MAX {
-        let Some(arrival) = beacons.arrivals.get(number).copied() else {
-            break;
-        };
-        for way in ways.out_of(arrival.place) {
-            beacons.pass_on(alloc, run, number, *way)?;
-        }
-    }
-    Ok(())
-}
-
-/// The addresses of the ASes of a topology, in its order.
-fn addresses(alloc: Global, topology: &Topology) -> Result<Vec<IsdAs>, AllocError> {
-    let mut ases = Vec::new(alloc);
-    for one in topology.ases() {
-        ases.push(one.ia)?;
-    }
-    Ok(ases)
-}
-
-/// Whether the AS at this place is a core AS.
-fn is_core(topology: &Topology, place: usize) -> bool {
-    topology.ases().get(place).is_some_and(|one| one.core)
-}
-
-/// The ASes of a topology, in its order, and the ways out of each.
+/// The ways out of the ASes of a topology.
 #[derive(Drop)]
 pub(crate) struct SearchGraph {
-    ases: Vec<IsdAs>,
     /// The ways by child links.
     down: WaysOut,
     /// The ways by core links.
     core: WaysOut,
 }
 
+/// The address of the AS at this place, if it is a core AS.
+fn core_at(topology: &Topology, place: usize) -> Option<IsdAs>
+    ensures { result ≡ core_at topology.now.ases place }
+{
+    match topology.ases().get(place) {
+        Some(one) if one.core => Some(one.ia),
+        _ => None,
+    }
+}
+
 impl SearchGraph {
     /// The graph of a topology.
-    pub(crate) fn of(alloc: Global, topology: &Topology) -> Result<SearchGraph, AllocError> {
+    pub(crate) fn of(alloc: Global, topology: &Topology) -> Result<SearchGraph, AllocError>
+        ensures { IfOk result (λ graph. IsGraphOf topology.now graph) }
+    {
         Ok(SearchGraph {
-            ases: addresses(alloc, topology)?,
             down: WaysOut::of(alloc, topology, LinkClass::Child)?,
             core: WaysOut::of(alloc, topology, LinkClass::Core)?,
         })
     }
 
-    /// Has each core AS begin beacons over its links: down child links, and over core links.
+    /// The ways of segments of this kind.
+    fn ways(&self, kind: SegKind) -> &WaysOut
+        ensures { result.now.ways.items ≡ ways_for self.now kind }
+    {
+        match kind {
+            SegKind::Core => &self.core,
+            SegKind::Intra => &self.down,
+        }
+    }
+
+    /// Has an AS begin beacons, and each AS pass on and end the first that reach it.
+    ///
+    /// A beacon reaches an AS before another if it has fewer entries, or as many and comes first by
+    /// its interfaces. No beacon passes an AS twice.
+    fn serve(
+        &self,
+        alloc: Global,
+        run: &mut BeaconRun,
+        origin: IsdAs,
+        wanted: Wanted,
+    ) -> Result<(), AllocError>
+        ensures second { run.new.second ≡ run.old.second }
+        ensures served { OnOk result
+            (Serves wanted origin (ways_for self.now wanted.kind) run.old.net run.new.net) }
+    {
+        let ways = self.ways(wanted.kind);
+        let arrivals = Arrivals::new(alloc);
+        let mut spread = Spread { wanted, arrivals };
+        for way in ways.out_of(origin) {
+            spread.begin(alloc, run, way)?;
+        }
+        let mut number = 0;
+        while let Some(from) = spread.arrivals.get(number) {
+            for way in ways.out_of(from.ia) {
+                spread.pass_on(alloc, run, &from, way)?;
+            }
+            number += 1;
+        }
+        Ok(())
+    }
+
+    /// Has a core AS begin beacons over its links: down child links, and over core links.
+    fn serve_both(
+        &self,
+        alloc: Global,
+        run: &mut BeaconRun,
+        origin: IsdAs,
+        options: &BeaconingOptions,
+    ) -> Result<(), AllocError>
+        ensures second { run.new.second ≡ run.old.second }
+        ensures served { OnOk result
+            (ServesBoth options.entry.now self.now origin run.old.net run.new.net) }
+    {
+        let per_pair = options.per_pair.min(MAX_PER_PAIR);
+        let long = Wanted {
+            kind: SegKind::Intra,
+            per_pair,
+            entries: MAX_SEGMENT_LEN,
+        };
+        let short = Wanted {
+            kind: SegKind::Core,
+            per_pair,
+            entries: options.core_len.min(MAX_SEGMENT_LEN),
+        };
+        self.serve(alloc, run, origin, long)?;
+        self.serve(alloc, run, origin, short)
+    }
+
+    /// Has each core AS begin beacons over its links.
     pub(crate) fn spread(
         &self,
         alloc: Global,
         run: &mut BeaconRun,
         options: &BeaconingOptions,
     ) -> Result<(), AllocError>
-        ensures network { run.new.net.network ≡ run.old.net.network }
         ensures second { run.new.second ≡ run.old.second }
+        ensures served { OnOk result
+            (ServesAll options.entry.now self.now run.old.net run.new.net) }
     {
-        let per_pair = options.per_pair;
-        let long = Limits {
-            per_pair,
-            entries: MAX_SEGMENT_LEN,
-        };
-        let short = Limits {
-            per_pair,
-            entries: options.core_len.min(MAX_SEGMENT_LEN),
-        };
-        for origin in 0..self.ases.len() {
-            if is_core(run.topology(), origin) {
-                spread_from(alloc, run, &self.ases, &self.down, origin, long)?;
-                spread_from(alloc, run, &self.ases, &self.core, origin, short)?;
+        for place in 0..run.topology().ases().len() {
+            if let Some(origin) = core_at(run.topology(), place) {
+                self.serve_both(alloc, run, origin, options)?;
             }
         }
         Ok(())

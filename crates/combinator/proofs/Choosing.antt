@@ -7,7 +7,7 @@ use Rattle.policy_expr.specs.Options.{WeighedRules}
 use Rattle.path_verifier.specs.Piece.{PieceValue}
 use Rattle.path_verifier.specs.Accepted.{AreLive}
 use Rattle.policy_expr.specs.Policy.{Rules}
-use Rattle.combinator.specs.Candidate.{Question, PathValue, HasNone, IsCandidate, IsOf, question_of}
+use Rattle.combinator.specs.Candidate.{AreSpelled, Question, PathValue, HasNone, IsCandidate, IsOf, question_of}
 use Rattle.combinator.specs.Choice.{ChosenValue}
 use Rattle.combinator.specs.Answer.{IsAnswer, question_under, GoesBefore, AnswersWith}
 use Rattle.combinator.specs.inner.Choice.{HaveNone, IsChoiceOf, LeavesPath, MayChoose}
@@ -30,6 +30,11 @@ may_choose set src dst groups usable_pieces own live whole fields are rules = re
   whole = whole rules;
   spelled = all_spelled (question_of set src dst rules) usable_pieces (whole rules) fields;
 }
+
+-- what may be searched under each option has headers of the grammar under each
+pub each_spelled : (set : Selection) (src dst : ℕ) (groups : List GroupValue) → MayChoose set src dst groups
+    → (option : WeighedRules) → AreSpelled (question_under set src dst option)
+each_spelled set src dst groups search option = (search option.rules).spelled
 
 -- an answer without a path, where it may have some, says that there is none
 pub none_there : (question : Question) (limit : ℕ) (paths : List PathValue) → 0 < limit → paths ≡ []

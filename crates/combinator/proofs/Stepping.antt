@@ -16,8 +16,8 @@ module _ (question : Question) (groups : List GroupValue) (search : MaySearch qu
   pub there : Contains groups group
   there = of_part groups part at i group part_is within item
 
-  is : IsGroup group
-  is = group_there IsGroup groups group search.are.each there
+  pub here_is : IsGroup group
+  here_is = group_there IsGroup groups group search.are.each there
 
   -- the fact held of what was tried, and it holds of what is tried now
   module _ (before after : List PieceValue → Type 0) (without : HoldsWithout question after)
@@ -27,34 +27,34 @@ module _ (question : Question) (groups : List GroupValue) (search : MaySearch qu
     WereTried = (one : GroupValue) → Contains (take (i + 1) part) one
         → WasTriedOver (OfChoices after) groups left front at one
 
-    more : WasTriedOver (OfChoices after) groups left front at group → WereTried
-    more = tried_more (OfChoices before) (OfChoices after) groups part left front at i group within item goes tried
+    pub one_tried : WasTriedOver (OfChoices after) groups left front at group → WereTried
+    one_tried = tried_more (OfChoices before) (OfChoices after) groups part left front at i group within item goes tried
 
     -- the group is of a kind that may not follow
     pub barred_tried : (first : List GroupValue) (last : GroupValue) → front ≡ first ++ last ∷ []
         → ¬ (MayAdjoin (kind_of last.head) (kind_of group.head)) → WereTried
     barred_tried first last ends never =
-        more (barred question after without groups search.are.each front group front_for.are is first last ends never left at)
+        one_tried (barred question after without groups search.are.each front group front_for.are here_is first last ends never left at)
 
     -- it ends in the destination
     pub end_tried : ends_in group.head ≡ question.dst → (longer : List GroupValue) → longer ≡ front ++ group ∷ []
         → OfChoices after longer → WereTried
-    end_tried ends longer same here = more (λ begins. (
+    end_tried ends longer same here = one_tried (λ begins. (
       subst (OfChoices after) same here,
-      behind_end question after without groups search.are.each front group front_for.are is ends left (ends_in group.head),
+      behind_end question after without groups search.are.each front group front_for.are here_is ends left (ends_in group.head),
     ))
 
     -- it ends elsewhere, and no more pieces may follow, or those that follow were tried
     module _ (apart : ¬ (ends_in group.head ≡ question.dst)) where
       pub last_tried : left ≡ 0 → WereTried
-      last_tried none = more (λ begins. (
-        elsewhere question after without groups search.are.each front group front_for.are is apart,
+      last_tried none = one_tried (λ begins. (
+        elsewhere question after without groups search.are.each front group front_for.are here_is apart,
         none_tried (OfChoices after) groups left (front ++ group ∷ []) (ends_in group.head) none,
       ))
 
       pub further_tried : (longer : List GroupValue) → longer ≡ front ++ group ∷ [] → (end : ℕ) → end ≡ ends_in group.head
           → OfEachOver (OfChoices after) groups left longer end → WereTried
       further_tried longer same end ends behind =
-          more (tried_here (OfChoices after) groups left front longer group end at same ends
-          (subst (OfChoices after) (sym same) (elsewhere question after without groups search.are.each front group front_for.are is apart))
+          one_tried (tried_here (OfChoices after) groups left front longer group end at same ends
+          (subst (OfChoices after) (sym same) (elsewhere question after without groups search.are.each front group front_for.are here_is apart))
           behind)

@@ -1,5 +1,6 @@
-ghost use Rattle.std.specs.Prelude.{◌≡◌, ◌⊎◌, ◌<◌, [], length, None, Some, slice_get, IfOk, IfSome};
+ghost use Rattle.std.specs.Prelude.{◌≡◌, ◌⊎◌, ◌<◌, [], length, None, Some, slice_get, IfOk, IfSome, OnOk};
 ghost use Rattle.policy_expr.specs.Options.{WeighedRules};
+ghost use Rattle.combinator.specs.Candidate.{AreSpelled};
 ghost use Rattle.combinator.specs.Answer.{AnswersWith, question_under};
 ghost use Rattle.combinator.specs.inner.Choice.{HaveNone, IsChoiceOf, LeavesPath, MayChoose};
 
@@ -81,6 +82,9 @@ pub fn paths_with<'s, 'p, A: Allocator + Clone>(
     // The weight is that of the used option.
     ensures weight { IfOk result (λ choice. IfSome choice.used (λ used.
         IfSome (slice_get options.entry.now used) (λ option. choice.weight ≡ option.weight))) }
+    // Under each option, the header of each path that may be sent is one of the grammar.
+    ensures spelled { OnOk result ((option : WeighedRules)
+        → AreSpelled (question_under set.entry.now src dst option)) }
 {
     let request = ChoiceRequest {
         set,
@@ -103,6 +107,8 @@ fn choice_of<'s, 'p, A: Allocator + Clone>(
     ensures weight { IfOk result (λ choice. IfSome choice.used (λ used.
         IfSome (slice_get request.now.options.now used)
         (λ option. choice.weight ≡ option.weight))) }
+    ensures spelled { let ask = request.now in OnOk result ((option : WeighedRules)
+        → AreSpelled (question_under ask.set.now ask.src ask.dst option)) }
 {
     let pieces = usable_pieces_of(alloc, request.set, request.src, request.dst)?;
     let groups = Groups::of(alloc, &pieces)?;

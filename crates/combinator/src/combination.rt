@@ -1,6 +1,8 @@
 ghost use Rattle.std.specs.Prelude.{◌≡◌, ◌<◌, Ok, IfErr, IfOk, OnOk};
+ghost use Rattle.policy_expr.specs.Options.{WeighedRules};
 ghost use Rattle.refusal.specs.Refusal.{Fails};
-ghost use Rattle.combinator.specs.Answer.{AnswersWith};
+ghost use Rattle.combinator.specs.Candidate.{AreSpelled};
+ghost use Rattle.combinator.specs.Answer.{AnswersWith, question_under};
 ghost use Rattle.combinator.specs.Fault.{ends_at};
 
 use crate::choice::paths_with;
@@ -29,6 +31,9 @@ pub fn combine<A: Allocator + Clone>(
     // A list that is returned answers the request.
     ensures found { IfOk result (λ list.
         AnswersWith set.entry.now src dst options.entry.now limit list.used list.paths) }
+    // Under each option, the header of each path that may be sent is one of the grammar.
+    ensures spelled { OnOk result ((option : WeighedRules)
+        → AreSpelled (question_under set.entry.now src dst option)) }
     // A list is returned only if the ends are two ASes.
     ensures ends { OnOk result (ends_at src dst ≡ Ok tt) }
     // The exact refusal, if memory does not run out.

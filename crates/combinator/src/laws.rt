@@ -11,7 +11,7 @@ ghost use Rattle.combinator.specs.Lasting.{IsSameSet, AreAllLive};
 
 /// Two answers to one question have the same headers and walks, in the same order; under several
 /// options they also use the same option. The law needs headers of the grammar, which all
-/// candidates have ([`crate::paths_between`]).
+/// candidates have: so say [`crate::paths_between`], [`crate::paths_with`] and [`crate::combine`].
 pub fn answers_agree()
     ensures paths { (question : Question) (limit : ℕ) (paths others : List PathValue)
         → AreSpelled question

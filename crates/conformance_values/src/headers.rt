@@ -274,9 +274,12 @@ fn an_accumulator_is_set_where_it_stands(rt: HostRuntime) -> Result<(), Fail> {
     Ok(())
 }
 
+/// The bytes of the longest header, 796, and of the longest payload of a run, 1,024.
+const ROOM: usize = 1_820;
+
 /// The first bytes of a header with some of them changed, and a payload behind it.
-fn room_with(changes: &[(usize, u8)]) -> [u8; 48] {
-    let mut room = [0xee; 48];
+fn room_with(changes: &[(usize, u8)]) -> [u8; ROOM] {
+    let mut room = [0xee; ROOM];
     for (byte, value) in room.iter_mut().zip(&up_with(changes)) {
         *byte = *value;
     }
@@ -284,30 +287,68 @@ fn room_with(changes: &[(usize, u8)]) -> [u8; 48] {
 }
 
 /// Each refusal of a header in borrowed bytes, in rooms that end within its first field, within its
-/// last, behind it, and behind a payload. No contract says that the bytes stay.
+/// last, behind it, behind some bytes more, and behind a payload: there a header that says to be
+/// longer is read from what follows. No contract says that the bytes stay.
 #[test]
 fn refused_bytes_stay(rt: HostRuntime) {
-    let rows: [(&[(usize, u8)], HeaderFault, HeaderFault); 7] = [
+    let rows: [(&[(usize, u8)], HeaderFault, HeaderFault, HeaderFault); 7] = [
         (
             &[(1, 0x03), (2, 0xf0), (3, 0x40)],
             HeaderFault::Short,
             HeaderFault::Short,
+            HeaderFault::Reserved,
         ),
-        (&[(1, 0x04)], HeaderFault::Reserved, HeaderFault::Reserved),
-        (&[(4, 0x02)], HeaderFault::Short, HeaderFault::PeerFlag),
-        (&[(12, 0x01)], HeaderFault::Short, HeaderFault::AlertFlag),
-        (&[(2, 0x00)], HeaderFault::SegLens, HeaderFault::SegLens),
+        (
+            &[(1, 0x04)],
+            HeaderFault::Reserved,
+            HeaderFault::Reserved,
+            HeaderFault::Reserved,
+        ),
+        (
+            &[(4, 0x02)],
+            HeaderFault::Short,
+            HeaderFault::PeerFlag,
+            HeaderFault::PeerFlag,
+        ),
+        (
+            &[(12, 0x01)],
+            HeaderFault::Short,
+            HeaderFault::AlertFlag,
+            HeaderFault::AlertFlag,
+        ),
+        (
+            &[(2, 0x00)],
+            HeaderFault::SegLens,
+            HeaderFault::SegLens,
+            HeaderFault::SegLens,
+        ),
         (
             &[(1, 0x02), (2, 0x18)],
             HeaderFault::TooManyHops,
             HeaderFault::TooManyHops,
+            HeaderFault::TooManyHops,
         ),
-        (&[(0, 0x40)], HeaderFault::Short, HeaderFault::BadIndex),
+        (
+            &[(0, 0x40)],
+            HeaderFault::Short,
+            HeaderFault::BadIndex,
+            HeaderFault::BadIndex,
+        ),
     ];
-    for (changes, cut, whole) in rows {
-        for (len, fault) in [(3, HeaderFault::Short), (35, cut), (36, whole), (48, whole)] {
+    for (changes, cut, whole, behind) in rows {
+        let lens = [
+            (3, HeaderFault::Short),
+            (35, cut),
+            (36, whole),
+            (48, whole),
+            (ROOM, behind),
+        ];
+        for (len, fault) in lens {
             let mut room = room_with(changes);
-            assert_eq!(rt; HeaderMut::new(&mut room[..len.min(48)]).err(), Some(fault));
+            assert_eq!(rt;
+                HeaderMut::new(&mut room[..len.min(ROOM)]).err(),
+                Some(fault)
+            );
             assert_eq!(rt; room, room_with(changes));
         }
     }

@@ -1,14 +1,12 @@
 ghost use Rattle.std.specs.Prelude.{◌≡◌, IfOk, slice_get};
 ghost use Rattle.std.specs.Option.{ok_or};
+ghost use Rattle.refusal.specs.Refusal.{Gives};
 ghost use Rattle.network_core.specs.declared.fault.EventFault.TheVariants as faults;
-ghost use Rattle.network_core.specs.inner.Doing.{JudgesEvent};
 
 use crate::fault::EventFault;
-use crate::net::EventError;
 use combinator::{Path, PathList};
 use isd_as::IsdAs;
 use policy_expr::Policy;
-use refusal::OrMemory;
 use std::alloc::{AllocError, Global};
 use std::marker::Model;
 use std::sync::Arc;
@@ -40,13 +38,13 @@ impl Model for Answer {
 
 impl Answer {
     /// The path of this number.
-    pub(crate) fn path_numbered(&self, number: u32) -> Result<&Path, EventError>
-        ensures { JudgesEvent (λ path. path.now) result
+    pub(crate) fn path_numbered(&self, number: u32) -> Result<&Path, EventFault>
+        ensures { Gives (λ path. path.now) result
             (ok_or (slice_get self.now.answer.paths number) faults.NoAnswer) }
     {
         match self.paths.get(number as usize) {
             Some(path) => Ok(path),
-            None => Err(OrMemory::Refused(EventFault::NoAnswer)),
+            None => Err(EventFault::NoAnswer),
         }
     }
 }

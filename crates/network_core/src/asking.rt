@@ -2,11 +2,11 @@
 
 ghost use Rattle.std.specs.Prelude.{◌≡◌, ◌<◌, slice_get, Ok, IfOk, OnOk};
 ghost use Rattle.std.specs.Option.{ok_or};
-ghost use Rattle.refusal.specs.Refusal.{Answers};
+ghost use Rattle.refusal.specs.Refusal.{Answers, Gives};
 ghost use Rattle.policy_expr.specs.Options.{options_at};
 ghost use Rattle.combinator.specs.Fault.{ends_at};
 ghost use Rattle.network_core.specs.declared.fault.EventFault.TheVariants as faults;
-ghost use Rattle.network_core.specs.inner.Doing.{AnswersTo, DoesAsk, JudgesEvent, KeepsAnswer};
+ghost use Rattle.network_core.specs.inner.Doing.{AnswersTo, DoesAsk, KeepsAnswer};
 ghost use Rattle.network_core.specs.Step.{options_asked, rules_used};
 
 use crate::answer::{Answer, SharedAnswer};
@@ -113,13 +113,13 @@ impl Net {
     }
 
     /// The answer of this number.
-    pub(crate) fn answer_numbered(&self, number: u32) -> Result<&SharedAnswer, EventError>
-        ensures { JudgesEvent (λ one. one.now) result
+    pub(crate) fn answer_numbered(&self, number: u32) -> Result<&SharedAnswer, EventFault>
+        ensures { Gives (λ one. one.now) result
             (ok_or (slice_get self.now.answers number) faults.NoAnswer) }
     {
         match self.answers.get(number as usize) {
             Some(answer) => Ok(answer),
-            None => Err(OrMemory::Refused(EventFault::NoAnswer)),
+            None => Err(EventFault::NoAnswer),
         }
     }
 }

@@ -1,11 +1,11 @@
 //! Events of beaconing: beacons begin, are passed on, and end as registered segments.
 
 ghost use Rattle.std.specs.Prelude.{◌≡◌, IsOk, Result};
-ghost use Rattle.refusal.specs.Refusal.{Fails};
+ghost use Rattle.refusal.specs.Refusal.{Fails, Gives};
 ghost use Rattle.path_segment.specs.Chain.{Chain};
 ghost use Rattle.beaconing.specs.declared.fault.BeaconFault.{BeaconFault};
 ghost use Rattle.network_core.specs.declared.fault.EventFault.TheVariants as faults;
-ghost use Rattle.network_core.specs.inner.Doing.{DoesOrFails, JudgesEvent, error_as, with_made};
+ghost use Rattle.network_core.specs.inner.Doing.{DoesOrFails, error_as, with_made};
 ghost use Rattle.network_core.specs.Step.{beacon_at, new_segment, originates, extends, terminates, with_beacon, with_segment};
 
 use crate::fault::EventFault;
@@ -71,12 +71,12 @@ impl Net {
     }
 
     /// The beacon of a number.
-    fn beacon(&self, beacon: u32) -> Result<&Beacon, EventError>
-        ensures { JudgesEvent (λ b. b.now) result (beacon_at self.now beacon) }
+    fn beacon(&self, beacon: u32) -> Result<&Beacon, EventFault>
+        ensures { Gives (λ b. b.now) result (beacon_at self.now beacon) }
     {
         self.beacons
             .get(beacon as usize)
-            .ok_or(OrMemory::Refused(EventFault::NoBeacon))
+            .ok_or(EventFault::NoBeacon)
     }
 }
 

@@ -1,26 +1,24 @@
 //! Events of the network itself: its second, its store, its links and its keys.
 
 ghost use Rattle.std.specs.Prelude.{◌≡◌, Ok, false, true};
-ghost use Rattle.refusal.specs.declared.fault.OrMemory.TheVariants.{Refused};
 ghost use Rattle.scion_topology.specs.Topology.{set_up, with_rotated_key};
 ghost use Rattle.network_core.specs.declared.fault.EventFault.TheVariants as faults;
-ghost use Rattle.network_core.specs.inner.Doing.{DoesOrFails};
+ghost use Rattle.network_core.specs.inner.Doing.{Does};
 ghost use Rattle.network_core.specs.Step.{ticks, sweeps, with_network};
 
 use crate::fault::EventFault;
-use crate::net::{EventError, Net};
+use crate::net::Net;
 use crate::reply::Reply;
 use isd_as::{IfId, IsdAs};
-use refusal::OrMemory;
 use scion_topology::TopologyFault;
 
 impl Net {
     /// Sets the time of the network.
-    pub(crate) fn tick(&mut self, to: u32) -> Result<Reply, EventError>
-        ensures { DoesOrFails (ticks self.old to) ⊥ self.old self.new result }
+    pub(crate) fn tick(&mut self, to: u32) -> Result<Reply, EventFault>
+        ensures { Does (ticks self.old to) self.old self.new result }
     {
         if to < self.moment {
-            return Err(OrMemory::Refused(EventFault::TimeBack));
+            return Err(EventFault::TimeBack);
         }
         self.moment = to;
         Ok(Reply::Done)
@@ -34,8 +32,8 @@ impl Net {
     }
 
     /// Cuts a link.
-    pub(crate) fn cut_link(&mut self, ia: IsdAs, interface: IfId) -> Result<Reply, EventError>
-        ensures { DoesOrFails (with_network self.old (set_up false ia interface self.old.network)) ⊥
+    pub(crate) fn cut_link(&mut self, ia: IsdAs, interface: IfId) -> Result<Reply, EventFault>
+        ensures { Does (with_network self.old (set_up false ia interface self.old.network))
             self.old self.new result }
     {
         self.topology.cut_link(ia, interface).map_err(of_topology)?;
@@ -43,8 +41,8 @@ impl Net {
     }
 
     /// Mends a link.
-    pub(crate) fn mend_link(&mut self, ia: IsdAs, interface: IfId) -> Result<Reply, EventError>
-        ensures { DoesOrFails (with_network self.old (set_up true ia interface self.old.network)) ⊥
+    pub(crate) fn mend_link(&mut self, ia: IsdAs, interface: IfId) -> Result<Reply, EventFault>
+        ensures { Does (with_network self.old (set_up true ia interface self.old.network))
             self.old self.new result }
     {
         self.topology.mend_link(ia, interface).map_err(of_topology)?;
@@ -52,9 +50,8 @@ impl Net {
     }
 
     /// Takes another key into use for an AS.
-    pub(crate) fn rotate_key(&mut self, ia: IsdAs, key: &[u8]) -> Result<Reply, EventError>
-        ensures { DoesOrFails
-            (with_network self.old (with_rotated_key ia key.now self.old.network)) ⊥
+    pub(crate) fn rotate_key(&mut self, ia: IsdAs, key: &[u8]) -> Result<Reply, EventFault>
+        ensures { Does (with_network self.old (with_rotated_key ia key.now self.old.network))
             self.old self.new result }
     {
         self.topology.rotate_key(ia, key).map_err(of_topology)?;
@@ -63,8 +60,8 @@ impl Net {
 }
 
 /// The refusal of the topology as that of an event.
-fn of_topology(fault: TopologyFault) -> EventError
-    ensures { result ≡ Refused (faults.Topology fault) }
+fn of_topology(fault: TopologyFault) -> EventFault
+    ensures { result ≡ faults.Topology fault }
 {
-    OrMemory::Refused(EventFault::Topology(fault))
+    EventFault::Topology(fault)
 }

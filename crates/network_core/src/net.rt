@@ -161,7 +161,7 @@ impl Net {
         ensures { DoesEvent self.old (event_value event.now) self.new result }
     {
         match event {
-            Event::Tick { now } => self.tick(*now),
+            Event::Tick { now } => Ok(self.tick(*now)?),
             Event::Originate { ia, egress, beta0 } => self.originate(alloc, *ia, *egress, *beta0),
             Event::Extend { beacon, ia, egress } => self.extend(alloc, *beacon, *ia, *egress),
             Event::Terminate { beacon, ia } => self.terminate(alloc, *beacon, *ia),
@@ -174,13 +174,13 @@ impl Net {
             } => self.ask(alloc, *src, *dst, options, *limit),
             Event::Send { ask, path, payload } => self.send(alloc, *ask, *path, payload),
             Event::SendGiven { way, payload } => self.send_over(alloc, way, payload),
-            Event::Turn { packet } => self.turn(*packet),
-            Event::Lose { packet } => self.lose(*packet),
-            Event::Alter { packet, at, xor } => self.alter(*packet, *at, *xor),
+            Event::Turn { packet } => Ok(self.turn(*packet)?),
+            Event::Lose { packet } => Ok(self.lose(*packet)?),
+            Event::Alter { packet, at, xor } => Ok(self.alter(*packet, *at, *xor)?),
             Event::Back { packet, payload } => self.back(alloc, *packet, payload),
-            Event::CutLink { ia, interface } => self.cut_link(*ia, *interface),
-            Event::MendLink { ia, interface } => self.mend_link(*ia, *interface),
-            Event::RotateKey { ia, key } => self.rotate_key(*ia, key),
+            Event::CutLink { ia, interface } => Ok(self.cut_link(*ia, *interface)?),
+            Event::MendLink { ia, interface } => Ok(self.mend_link(*ia, *interface)?),
+            Event::RotateKey { ia, key } => Ok(self.rotate_key(*ia, key)?),
         }
     }
 }

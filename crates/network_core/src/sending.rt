@@ -1,11 +1,11 @@
 //! Sending packets, and replying to delivered ones.
 
 ghost use Rattle.std.specs.Prelude.{◌≡◌, ◌≤◌, IfOk, OnOk, Some, length, nat_le, slice_get};
-ghost use Rattle.refusal.specs.Refusal.{check};
+ghost use Rattle.refusal.specs.Refusal.{Gives, check};
 ghost use Rattle.path_verifier.specs.Accepted.{IsAccepted};
 ghost use Rattle.forwarding.specs.Frame.{HasFrame};
 ghost use Rattle.network_core.specs.declared.fault.EventFault.TheVariants as faults;
-ghost use Rattle.network_core.specs.inner.Doing.{BeginsAt, DoesSend, JudgesEvent, Readies, ReadiesFrom};
+ghost use Rattle.network_core.specs.inner.Doing.{BeginsAt, DoesSend, Readies, ReadiesFrom};
 ghost use Rattle.network_core.specs.SentWay.{stored_way};
 ghost use Rattle.network_core.specs.Event.{BackOf, ByAnswer, ByWay, way_of};
 ghost use Rattle.network_core.specs.Value.{asked_at, way_on};
@@ -24,7 +24,6 @@ use forwarding::{PacketInFlight, PacketLocation, frame};
 use path_header::Header;
 use path_verifier::{lend_all, verify};
 use policy_expr::Policy;
-use refusal::OrMemory;
 use router_step::{destination_in, read_header, source_in};
 use std::alloc::{AllocError, Global};
 
@@ -142,7 +141,7 @@ impl Net {
     }
 
     /// The router at which a packet by a path of an answer departs, or the first refusal.
-    fn first_router_on(&self, answer: &Answer, path: &Path) -> Result<u8, EventError>
+    fn first_router_on(&self, answer: &Answer, path: &Path) -> Result<u8, EventFault>
         ensures { BeginsAt self.now (way_on answer.now path.now) result }
     {
         let pieces = lend_all(path.pieces());
@@ -190,7 +189,7 @@ impl Net {
     }
 
     /// The router at which a packet by this way departs, or the first refusal.
-    fn first_router(&self, way: &Given<'_>) -> Result<u8, EventError>
+    fn first_router(&self, way: &Given<'_>) -> Result<u8, EventFault>
         ensures { BeginsAt self.now (way_of way.now) result }
     {
         let path = match verify(
@@ -202,47 +201,47 @@ impl Net {
             way.policy,
         ) {
             Ok(path) => path,
-            Err(fault) => return Err(OrMemory::Refused(EventFault::Path(fault))),
+            Err(fault) => return Err(EventFault::Path(fault)),
         };
         path.known();
         let out = path.walk()[0].egress;
         let router = match self.topology.owner(way.source, out) {
             Ok(router) => router,
-            Err(fault) => return Err(OrMemory::Refused(EventFault::Topology(fault))),
+            Err(fault) => return Err(EventFault::Topology(fault)),
         };
         if self.packets.len() >= MAX_OBJECTS {
-            return Err(OrMemory::Refused(EventFault::TooMany));
+            return Err(EventFault::TooMany);
         }
         Ok(router)
     }
 }
 
 /// Checks that a payload is short enough.
-fn check_payload(payload: &[u8]) -> Result<(), EventError>
-    ensures judged { JudgesEvent (λ x. x) result
+fn check_payload(payload: &[u8]) -> Result<(), EventFault>
+    ensures judged { Gives (λ x. x) result
         (check (nat_le (length payload.now) 1024) faults.PayloadTooLong) }
     ensures few { IfOk result (λ _. length payload.now ≤ 1024) }
 {
     if payload.len() > MAX_PAYLOAD_LEN {
-        return Err(OrMemory::Refused(EventFault::PayloadTooLong));
+        return Err(EventFault::PayloadTooLong);
     }
     Ok(())
 }
 
 /// The header of a delivered packet, reversed.
-fn header_back(one: &Packet) -> Result<Header, EventError>
-    ensures { JudgesEvent (λ header. header) result
+fn header_back(one: &Packet) -> Result<Header, EventFault>
+    ensures { Gives (λ header. header) result
         (header_back one.now.packet one.now.packet.place) }
 {
     if one.place() != PacketLocation::Delivered {
-        return Err(OrMemory::Refused(EventFault::NotDelivered));
+        return Err(EventFault::NotDelivered);
     }
     match read_header(one.bytes()) {
         Ok((mut header, _)) => {
             header.reverse();
             Ok(header)
         }
-        Err(_) => Err(OrMemory::Refused(EventFault::NotDelivered)),
+        Err(_) => Err(EventFault::NotDelivered),
     }
 }
 

@@ -3,5 +3,5 @@ pub mod Cutting
 pub mod Surviving
 pub mod Reporting
 pub mod Opening
-pub mod Adding
 pub mod Ranking
+pub mod Writing

@@ -1,8 +1,11 @@
 -- The report of a network.
-use Rattle.std.specs.Prelude.{◌≡◌, ℕ, ◌==◌, ◌&&◌, not, if◌then◌else◌, Bool, true, List, [], ◌∷◌, ◌++◌, map, flat_map, take, All, Option, Some, None}
+use Rattle.std.specs.Prelude.{◌≡◌, ◌⊎◌, ℕ, ◌==◌, ◌&&◌, not, if◌then◌else◌, Bool, true, false, List, [], ◌∷◌, ◌++◌, map, flat_map, take, All, Option, Some, None, Result, Ok, Err}
+use Rattle.std.specs.Io.KnownBytes.{Appends}
 use Rattle.scion_topology.specs.declared.network.AsEntry.{AsEntry}
 use Rattle.policy_expr.specs.Policy.{Rules}
 use Rattle.network_core.specs.Value.{NetValue}
+use Rattle.path_report.specs.declared.fault.ReportFault.{ReportFault}
+use Rattle.path_report.specs.declared.fault.ReportFault.TheVariants.{Write}
 use Rattle.path_report.specs.declared.pair.AsPair.{AsPair}
 use Rattle.path_report.specs.declared.summary.RankedLink.{RankedLink}
 use Rattle.path_report.specs.Pair.{PairValue, IsPairReport}
@@ -49,3 +52,31 @@ pub record IsReport (net : NetValue) (wanted : ReportOptionsValue) (text : List 
   pub ranked : List RankedLink
   pub ranking : IsRanking net.network.links reports ranked
   pub says : text ≡ flat_map pair_line reports ++ flat_map rank_line (take 10 ranked)
+
+-- the text is a beginning of the lines of the first pairs
+pub record BeginsLines (net : NetValue) (wanted : ReportOptionsValue) (text : List ℕ) : Type 0 where
+  pub reports : List PairValue
+  pub later : List AsPair
+  pub pairs : map (λ report. report.pair) reports ++ later ≡ pairs_of wanted net.network.ases
+  pub each : All (IsPairReport net wanted.rules wanted.limit) reports
+  pub most : ℕ
+  pub says : text ≡ take most (flat_map pair_line reports)
+
+-- the text is a beginning of a report: of the lines of its first pairs, or of the whole report
+abbrev pub BeginsReport : NetValue → ReportOptionsValue → (text : List ℕ) → Type 0
+BeginsReport net wanted text = BeginsLines net wanted text
+    ⊎ ((whole : List ℕ) × (IsReport net wanted whole × ((most : ℕ) × (text ≡ take most whole))))
+
+-- whether a write or a flush failed
+abbrev pub is_write_fault : {A : Type 0} → Result A ReportFault → Bool
+is_write_fault (Err Write) = true
+is_write_fault result = false
+
+-- a report was written, or, before a fault, the beginning of one. The contents are what the sink held
+-- before and after it.
+abbrev pub WritesReport : (net : NetValue) (wanted : ReportOptionsValue)
+    (result : Result (Unit {0}) ReportFault) (held holds : Option (List ℕ)) → Type 0
+WritesReport net wanted (Ok done) held holds =
+    (text : List ℕ) × (Appends held holds text × IsReport net wanted text)
+WritesReport net wanted (Err fault) held holds =
+    (text : List ℕ) × (Appends held holds text × BeginsReport net wanted text)

@@ -7,6 +7,7 @@
 #![tactic(auto)]
 
 mod best;
+mod fault;
 mod line;
 mod needed;
 mod open_walk;
@@ -15,4 +16,5 @@ mod report;
 mod summary;
 mod survival;
 
+pub use fault::ReportFault;
 pub use report::{MAX_RANKED_LINKS, ReportOptions, path_report};

@@ -1,17 +1,22 @@
-ghost use Rattle.std.specs.Prelude.{◌≡◌, [], IfOk, OnOk, flat_map};
+ghost use Rattle.std.specs.Prelude.{◌≡◌, ◌++◌, ◌||◌, IfOk, OnOk, is_err};
 ghost use Rattle.std.specs.String.{string_bytes};
+ghost use Rattle.std.specs.Io.KnownBytes.{Appends};
+ghost use Rattle.streams.specs.Streams.{AppendsFront};
 ghost use Rattle.path_report.specs.Line.{pair_line};
-ghost use Rattle.path_report.specs.Report.{IsReport, if_wanted, is_chosen, is_wanted, pairs_from, pairs_of};
-ghost use Rattle.path_report.specs.inner.Reports.{AddsReports};
+ghost use Rattle.path_report.specs.Report.{WritesReport, if_wanted, is_chosen, is_wanted, is_write_fault, pairs_from, pairs_of};
+ghost use Rattle.path_report.specs.inner.Reports.{WritesPair, WritesPairs};
 
+use crate::fault::ReportFault;
 use crate::line::add_line;
 use crate::pair::{AsPair, PairReport, pair_report};
 use crate::summary::summary_text;
 use isd_as::IsdAs;
 use network_core::Net;
 use policy_expr::Policy;
+use scion_topology::AsEntry;
 use std::alloc::{AllocError, Global};
 use std::marker::Model;
+use streams::{Sink, WriteFailed, write_all};
 
 /// The most links that are named at the end of a report.
 pub const MAX_RANKED_LINKS: usize = 10;
@@ -62,72 +67,112 @@ fn is_wanted(wanted: &ReportOptions<'_>, pair: AsPair) -> bool
     pair.from != pair.to && is_chosen(wanted.from, pair.from) && is_chosen(wanted.to, pair.to)
 }
 
-/// Adds the report of a pair, if it is wanted.
+/// Adds a pair, if it is wanted.
 fn add_pair(
+    wanted: &ReportOptions<'_>,
+    from: IsdAs,
+    to: IsdAs,
+    pairs: &mut Vec<AsPair>,
+) -> Result<(), AllocError>
+    ensures { OnOk result (pairs.new.items
+        ≡ pairs.old.items ++ if_wanted wanted.entry.now (record { from = from; to = to })) }
+{
+    if is_wanted(wanted, AsPair { from, to }) {
+        pairs.push(AsPair { from, to })?;
+    }
+    Ok(())
+}
+
+/// Adds the wanted pairs that begin in this AS.
+fn add_pairs_from(
+    wanted: &ReportOptions<'_>,
+    ases: &[AsEntry],
+    from: IsdAs,
+    pairs: &mut Vec<AsPair>,
+) -> Result<(), AllocError>
+    ensures { OnOk result
+        (pairs.new.items ≡ pairs.old.items ++ pairs_from wanted.entry.now ases.now from) }
+{
+    for one in ases {
+        add_pair(wanted, from, one.ia, pairs)?;
+    }
+    Ok(())
+}
+
+/// The wanted pairs, in the order of the ASes.
+fn wanted_pairs(
+    alloc: Global,
+    wanted: &ReportOptions<'_>,
+    ases: &[AsEntry],
+) -> Result<Vec<AsPair>, AllocError>
+    ensures { IfOk result (λ pairs. pairs.items ≡ pairs_of wanted.entry.now ases.now) }
+{
+    let mut pairs = Vec::new(alloc);
+    for one in ases {
+        add_pairs_from(wanted, ases, one.ia, &mut pairs)?;
+    }
+    Ok(pairs)
+}
+
+/// The line of a pair.
+fn line_of(alloc: Global, report: &PairReport) -> Result<String, AllocError>
+    ensures { IfOk result (λ text. string_bytes text ≡ pair_line report.now) }
+{
+    let mut text = String::new(alloc);
+    add_line(&mut text, report)?;
+    Ok(text)
+}
+
+/// Writes a line, and passes it on to the device.
+fn write_line<K: Sink>(line: &str, sink: &mut K) -> Result<(), WriteFailed>
+    ensures written { OnOk result (Appends (K.held sink.old) (K.held sink.new) line.now) }
+    ensures front { AppendsFront (K.held sink.old) (K.held sink.new) line.now }
+    ensures flag { K.failed sink.new ≡ (K.failed sink.old || is_err result) }
+{
+    write_all(sink, line.as_bytes())?;
+    sink.flush().map_err(|_| WriteFailed)
+}
+
+/// What is said of a pair, once its line is written.
+fn write_pair<K: Sink>(
     alloc: Global,
     net: &Net,
     wanted: &ReportOptions<'_>,
     pair: AsPair,
-    reports: &mut Vec<PairReport>,
-) -> Result<(), AllocError>
-    ensures { OnOk result (AddsReports net.now wanted.entry.now
-        (if_wanted wanted.entry.now pair) reports.old.items reports.new.items) }
+    sink: &mut K,
+) -> Result<PairReport, ReportFault>
+    ensures written { WritesPair net.now wanted.entry.now pair result
+        (K.held sink.old) (K.held sink.new) }
+    ensures flag { K.failed sink.new ≡ (K.failed sink.old || is_write_fault result) }
 {
-    if is_wanted(wanted, pair) {
-        reports.push(pair_report(alloc, net, wanted, pair)?)?;
-    }
-    Ok(())
+    let report = pair_report(alloc, net, wanted, pair)?;
+    let line = line_of(alloc, &report)?;
+    write_line(line.as_str(), sink)?;
+    Ok(report)
 }
 
-/// Adds the reports of the wanted pairs that begin in this AS.
-fn add_pairs_from(
+/// What is said of each wanted pair, once their lines are written.
+fn write_pairs<K: Sink>(
     alloc: Global,
     net: &Net,
     wanted: &ReportOptions<'_>,
-    from: IsdAs,
-    reports: &mut Vec<PairReport>,
-) -> Result<(), AllocError>
-    ensures { OnOk result (AddsReports net.now wanted.entry.now
-        (pairs_from wanted.entry.now net.now.network.ases from)
-        reports.old.items reports.new.items) }
+    pairs: &[AsPair],
+    sink: &mut K,
+) -> Result<Vec<PairReport>, ReportFault>
+    requires { pairs.now ≡ pairs_of wanted.now net.now.network.ases }
+    ensures written { WritesPairs (λ reports. reports.items) net.now wanted.entry.now result
+        (K.held sink.old) (K.held sink.new) }
+    ensures flag { K.failed sink.new ≡ (K.failed sink.old || is_write_fault result) }
 {
-    let ases = net.topology().ases();
-    for one in ases {
-        let pair = AsPair { from, to: one.ia };
-        add_pair(alloc, net, wanted, pair, reports)?;
-    }
-    Ok(())
-}
-
-/// The reports of the wanted pairs.
-fn pair_reports(
-    alloc: Global,
-    net: &Net,
-    wanted: &ReportOptions<'_>,
-) -> Result<Vec<PairReport>, AllocError>
-    ensures { IfOk result (λ reports. AddsReports net.now wanted.entry.now
-        (pairs_of wanted.entry.now net.now.network.ases) [] reports.items) }
-{
-    let ases = net.topology().ases();
     let mut reports = Vec::new(alloc);
-    for one in ases {
-        add_pairs_from(alloc, net, wanted, one.ia, &mut reports)?;
+    for pair in pairs {
+        let report = write_pair(alloc, net, wanted, *pair, sink)?;
+        reports.push(report)?;
     }
     Ok(reports)
 }
 
-/// The lines of these pairs.
-fn lines_of(alloc: Global, reports: &[PairReport]) -> Result<String, AllocError>
-    ensures { IfOk result (λ text. string_bytes text ≡ flat_map pair_line reports.now) }
-{
-    let mut text = String::new(alloc);
-    for report in reports {
-        add_line(&mut text, report)?;
-    }
-    Ok(text)
-}
-
-/// The report of a network at its second: a line for each wanted pair of ASes, in the order of the
+/// Writes the report of a network at its second: a line for each wanted pair of ASes, in the order of the
 /// topology, and a line for each of the links that most pairs need, at most [`MAX_RANKED_LINKS`].
 ///
 /// The line of a pair is `FROM TO paths N hops H until S survives K needs L LINK..`. Its N paths have
@@ -143,19 +188,26 @@ fn lines_of(alloc: Global, reports: &[PairReport]) -> Result<String, AllocError>
 /// for a search of the link at each of its hops; that of [`paths_between`](combinator::paths_between)
 /// for one path, or twice that of those before the first whose links are up; and of the walks for
 /// each three links, each of one walk. The links at the end take the time of each link and each pair,
-/// for each link that the pair needs. The memory is that of the walks of one pair, and of the text.
+/// for each link that the pair needs. The memory is that of the walks of one pair, and of what is said
+/// of each pair.
 ///
-/// [`AllocError`] if memory runs out.
-pub fn path_report(
+/// Each line of a pair is written, and passed on to the device, as soon as it is known.
+///
+/// [`ReportFault::Memory`] if memory runs out, [`ReportFault::Write`] if a write or a flush fails;
+/// what was written then is the beginning of a report.
+pub fn path_report<K: Sink>(
     alloc: Global,
     net: &Net,
     wanted: &ReportOptions<'_>,
-) -> Result<String, AllocError>
-    ensures { IfOk result (λ text. IsReport net.now wanted.entry.now (string_bytes text)) }
+    sink: &mut K,
+) -> Result<(), ReportFault>
+    ensures written { WritesReport net.now wanted.entry.now result
+        (K.held sink.old) (K.held sink.new) }
+    ensures flag { K.failed sink.new ≡ (K.failed sink.old || is_write_fault result) }
 {
-    let reports = pair_reports(alloc, net, wanted)?;
-    let mut text = lines_of(alloc, &reports)?;
-    let summary = summary_text(alloc, net.topology().links(), &reports)?;
-    text.push_str(summary.as_str())?;
-    Ok(text)
+    let pairs = wanted_pairs(alloc, wanted, net.topology().ases())?;
+    let reports = write_pairs(alloc, net, wanted, &pairs, sink)?;
+    let ranked = summary_text(alloc, net.topology().links(), &reports)?;
+    write_line(ranked.as_str(), sink)?;
+    Ok(())
 }

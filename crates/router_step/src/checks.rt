@@ -45,6 +45,8 @@ pub fn is_over_link(arrival: &Arrival) -> bool
 }
 
 /// Whether the interface belongs to the view's router.
+// Inlined, as all of a step: `step_in_parts` says why.
+#[inline(always)]
 pub(crate) fn is_owned(view: &RouterView<'_>, interface: IfId) -> bool
     ensures { result ≡ is_owned view.now interface }
 {
@@ -55,6 +57,8 @@ pub(crate) fn is_owned(view: &RouterView<'_>, interface: IfId) -> bool
 }
 
 /// Whether a packet that came over a link came by an interface of this router, the hop's way in.
+// Inlined, as `is_owned`.
+#[inline(always)]
 pub fn way_in_fits(
     view: &RouterView<'_>,
     arrival: &Arrival,
@@ -147,6 +151,8 @@ pub(crate) fn are_joined(switched: bool, from: LinkKind, to: LinkKind) -> bool
 }
 
 /// Whether the links by which the packet comes in and leaves may be joined.
+// Inlined, as `is_owned`.
+#[inline(always)]
 pub fn kinds_fit(view: &RouterView<'_>, arrival: &Arrival, switched: bool, out: LinkKind) -> bool
     ensures { result ≡ kinds_fit view.now arrival.now switched out }
 {

@@ -55,6 +55,9 @@ pub fn step(
 ///
 /// It answers as [`step`] does on the packet in one piece, and never [`Refusal::BadHeader`]. Only
 /// bytes of the path header change, and none after a refusal.
+// Inlined, as all of a step below it: where a library has steps on frames and on whole packets, each
+// has the code for itself, and none of them pays for a call that both share.
+#[inline(always)]
 pub fn step_in_parts(
     view: &RouterView<'_>,
     now: u32,
@@ -74,6 +77,8 @@ pub fn step_in_parts(
 }
 
 /// The step on the bytes after a packet's addresses, which begin with a header.
+// Inlined, as `step_in_parts`.
+#[inline(always)]
 fn step_behind(
     view: &RouterView<'_>,
     now: u32,

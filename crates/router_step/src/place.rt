@@ -78,6 +78,8 @@ fn seg_id_on_leaving(info: &InfoField, hop: &HopField) -> u16
 }
 
 /// The first place of the next segment, for a packet at the last one of its segment.
+// Inlined, as all of a step: `step_in_parts` says why.
+#[inline(always)]
 pub(crate) fn in_next_segment(here: &Here, header: &HeaderMut<'_>) -> Here
     requires infos { here.now.segment + 1 < length (value_of header.now).infos }
     requires hops { here.now.place + 1 < length (value_of header.now).hops }

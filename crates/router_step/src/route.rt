@@ -37,6 +37,8 @@ fn indices_fit(arrival: &Arrival, lens: SegLens, segment: usize, place: usize) -
 
 /// Steps 2 to 5: reads where the packet is, and checks the indices, the way in, and that the hop is
 /// live and of this AS.
+// Inlined, as `step_in_parts`.
+#[inline(always)]
 fn admit(
     view: &RouterView<'_>,
     now: u32,
@@ -101,6 +103,8 @@ fn end(
 
 /// Step 9: returns the place from which the packet leaves. Where the path switches to another
 /// segment, that is the first place there, whose hop is checked too.
+// Inlined, as `step_in_parts`.
+#[inline(always)]
 fn switch(
     view: &RouterView<'_>,
     now: u32,
@@ -138,6 +142,8 @@ fn switch(
 }
 
 /// Steps 10 to 13: chooses where the packet goes from this place.
+// Inlined, as `step_in_parts`.
+#[inline(always)]
 fn leave(view: &RouterView<'_>, arrival: &Arrival, there: &Here) -> Result<Outcome, Refusal>
     ensures { result
         ≡ chosen_outcome view.now arrival.now there.now.switched there.now.info there.now.hop }
@@ -160,6 +166,8 @@ fn leave(view: &RouterView<'_>, arrival: &Arrival, there: &Here) -> Result<Outco
 
 /// One step on a path header in its bytes. After it they are the new header, or as they were if the
 /// packet is refused.
+// Inlined, as `step_in_parts`.
+#[inline(always)]
 pub(crate) fn step_header(
     view: &RouterView<'_>,
     now: u32,

@@ -12,7 +12,7 @@ use path_verifier::OwnedPiece;
 use policy_expr::WalkHop;
 use refusal::OrMemory;
 use scion_topology::{RouterView, Topology, TopologyFault};
-use std::alloc::{AllocError, Global};
+use std::alloc::Global;
 use std::marker::Model;
 
 /// A packet that is carried through a network, and the number of its turns.
@@ -89,23 +89,6 @@ impl<'a> Flight<'a> {
             header: sent.header(),
             payload: sent.payload(),
             turns: 0,
-            transit,
-        })
-    }
-
-    /// A copy of the flight that owns its bytes, unless memory runs out.
-    pub fn try_clone(&self, alloc: Global) -> Result<Flight<'a>, AllocError>
-        ensures { IfOk result (λ copy. copy ≡ self.now) }
-    {
-        let transit = self.transit.try_clone(alloc, self.header.hop_count())?;
-        Ok(Flight {
-            fabric: self.fabric,
-            source: self.source,
-            destination: self.destination,
-            pieces: self.pieces,
-            header: self.header,
-            payload: self.payload,
-            turns: self.turns,
             transit,
         })
     }

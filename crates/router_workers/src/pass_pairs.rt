@@ -10,6 +10,7 @@ use crate::turn_maker::TurnMaker;
 use crate::worker::Worker;
 use inbox::{Inbox, Receiver, ReceiverPass, Sender, SenderPass};
 use std::alloc::{AllocError, Global};
+use std::mem;
 
 /// The two passes of a new inbox.
 #[derive(Drop)]
@@ -64,8 +65,7 @@ pub(crate) fn ends_of<'a, T: Drop>(
 }
 
 /// The workers, by their numbers, unless memory runs out: each has its own inbox, a way into every
-/// inbox, and room for the ends of this many flights. Their ways are split off those by which the
-/// inboxes were filled.
+/// inbox, and room for the ends of this many flights.
 pub(crate) fn workers_of<'a, J: RunFacts>(
     alloc: Global,
     first_senders: Vec<Sender<'a, PostedFlight<J>>>,
@@ -82,7 +82,7 @@ pub(crate) fn workers_of<'a, J: RunFacts>(
     for receiver in receivers {
         let number = worker_list.len();
         let maker = TurnMaker::new(alloc, number)?;
-        let senders = split_all(alloc, &mut first_senders)?;
+        let senders = ways_of(alloc, &mut first_senders, number)?;
         let ends = Vec::with_capacity(alloc, flights)?;
         worker_list.push(Worker {
             maker,
@@ -92,6 +92,24 @@ pub(crate) fn workers_of<'a, J: RunFacts>(
         })?;
     }
     Ok(worker_list)
+}
+
+/// The ways into all inboxes for the worker of this number, unless memory runs out. Worker 0 goes on
+/// with those by which the inboxes were filled; those of the others are split off.
+fn ways_of<'a, T: Drop>(
+    alloc: Global,
+    first_senders: &mut Vec<Sender<'a, T>>,
+    number: usize,
+) -> Result<Vec<Sender<'a, T>>, AllocError>
+    ensures kept { inboxes_of first_senders.new.items ≡ inboxes_of first_senders.old.items }
+    ensures further { IfOk result (λ ways.
+        inboxes_of ways.items ≡ inboxes_of first_senders.old.items) }
+{
+    let mut ways = split_all(alloc, first_senders)?;
+    if number == 0 {
+        mem::swap(&mut ways, first_senders);
+    }
+    Ok(ways)
 }
 
 /// Another sender for each inbox, unless memory runs out.

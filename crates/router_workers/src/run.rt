@@ -141,11 +141,13 @@ fn empty_row<J: RunFacts>(
     Ok(row)
 }
 
-/// Puts each end into the place of its flight.
+/// Puts each end into the place of its flight, if that is still empty.
 fn arrange<J: RunFacts>(row: &mut [Option<FlightEnd<J>>], ends: Vec<FlightEnd<J>>) {
     for end in ends {
         if let Some(place) = row.get_mut(end.number()) {
-            *place = Some(end);
+            if place.is_none() {
+                *place = Some(end);
+            }
         }
     }
 }

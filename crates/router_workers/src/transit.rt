@@ -41,24 +41,6 @@ impl Transit {
         })
     }
 
-    /// A copy with room for this many hops, unless memory runs out.
-    pub(crate) fn try_clone(&self, alloc: Global, hops: usize) -> Result<Transit, AllocError>
-        ensures packet { IfOk result (λ copy.
-            packet_with copy.bytes.items copy.place copy.passed.items
-            ≡ packet_with self.now.bytes.items self.now.place self.now.passed.items) }
-        ensures room { IfOk result (λ copy. hops ≤ vec_capacity copy.passed) }
-    {
-        let mut bytes = Vec::with_capacity(alloc, self.bytes.len())?;
-        bytes.extend_from_slice(&self.bytes)?;
-        let mut passed = Vec::with_capacity(alloc, hops)?;
-        passed.extend_from_slice(&self.passed)?;
-        Ok(Transit {
-            bytes,
-            place: self.place,
-            passed,
-        })
-    }
-
     /// One turn in place, with this view of a router. There must be room for one hop more.
     pub(crate) fn turn_under(&mut self, topology: &Topology, view: &RouterView<'_>, now: u32)
         requires { length self.old.passed.items < vec_capacity self.old.passed }

@@ -1,6 +1,7 @@
 -- The answers about whole packets, and the records in which a host gives and gets what one says.
 use Rattle.std.specs.Prelude.{◌≡◌, ℕ, ◌-◌, ◌^◌, ◌==◌, Bool, ◌&&◌, ◌||◌, List, ◌++◌, length, take, drop, replicate, nat_lt, Result, Ok, Err}
 use Rattle.refusal.specs.Refusal.{◌>>=◌, check, refused_as}
+use Rattle.scion_topology.specs.View.{View}
 use Rattle.path_header.specs.Fault as header
 use Rattle.path_header.specs.Reading.{header_at}
 use Rattle.router_step.specs.declared.outcome.Outcome.{Outcome}
@@ -34,13 +35,19 @@ abbrev pub turn_answer : TurnRefusal → ScionAnswer
 turn_answer (Packet fault) = packet_answer fault
 turn_answer (Step refusal) = refusal_answer refusal
 
--- the turn of a router of these parts on a whole packet that came in this way
+-- the turn of a router with this view, on a whole packet that came in this way
+abbrev pub whole_step_at : (view : View) (now arrival interface : ℕ) (packet : List ℕ)
+    → Result (Outcome × List ℕ) ScionAnswer
+whole_step_at view now arrival interface packet = do
+  way ← or_bad_call (arrival_told arrival interface)
+  refused_as turn_answer (whole_packet_step view now way packet)
+
+-- the turn of a router of these parts
 abbrev pub whole_step_told : (router : ScionRouter) (now arrival interface : ℕ) (packet : List ℕ)
     → Result (Outcome × List ℕ) ScionAnswer
 whole_step_told router now arrival interface packet = do
   view ← view_told router
-  way ← or_bad_call (arrival_told arrival interface)
-  refused_as turn_answer (whole_packet_step view now way packet)
+  whole_step_at view now arrival interface packet
 
 -- ---- reading
 

@@ -1,11 +1,12 @@
 //! Whole packets in the host's memory: a router's turn on one, what one says, and the reply to it.
 
 ghost use Rattle.std.specs.Prelude.{◌≡◌, ◌≤◌};
+ghost use Rattle.scion_topology.specs.View.{View};
 ghost use Rattle.scion_packet.specs.Value.{front_len, headers_len};
 ghost use Rattle.scion_packet.specs.Reading.{whole_packet_at};
 ghost use Rattle.scion_ffi.specs.Answer.{answer};
 ghost use Rattle.scion_ffi.specs.Step.{IsStepAnswered};
-ghost use Rattle.scion_ffi.specs.Whole.{packet_answer, turn_answer, whole_step_told, host_record, info_record, host_told, info_told, packet_told, IsPacketRead, IsPacketWritten, IsReplyAnswered};
+ghost use Rattle.scion_ffi.specs.Whole.{packet_answer, turn_answer, whole_step_at, whole_step_told, host_record, info_record, host_told, info_told, packet_told, IsPacketRead, IsPacketWritten, IsReplyAnswered};
 
 use crate::answer::{DONE, ScionAnswer, bad_call, outcome_answer, plain, refusal_answer};
 use crate::packet_records::{ScionHost, ScionPacketInfo};
@@ -17,6 +18,7 @@ use refusal::NumberedFault;
 use scion_packet::{
     HostAddress, PacketFault, PacketInfo, TurnRefusal, WholePacket, read, reply, turn, write,
 };
+use scion_topology::RouterView;
 
 /// The answer about bytes that are no whole packet, or about one that was not written.
 fn packet_answer(fault: PacketFault) -> ScionAnswer
@@ -145,6 +147,28 @@ fn packet_of<'a>(
     })
 }
 
+/// One turn of the router with this view on a whole packet that came in this way.
+// Never inlined: where it is, LLVM copies the view with both keys out of the answer that has it.
+#[inline(never)]
+fn turn_packet(
+    view: &RouterView<'_>,
+    now: u32,
+    arrival: u8,
+    interface: u16,
+    packet: &mut [u8],
+) -> ScionAnswer
+    ensures { IsStepAnswered (whole_step_at view.now now arrival interface packet.old)
+        packet.old packet.new result }
+{
+    let Some(arrival) = arrival_of(arrival, interface) else {
+        return bad_call();
+    };
+    match turn(view, now, arrival, packet) {
+        Ok(outcome) => outcome_answer(outcome),
+        Err(refusal) => turn_answer(refusal),
+    }
+}
+
 /// One turn of this router at the second `now` on a whole packet, in place.
 ///
 /// It is for whole packets what [`crate::scion_step`] is for frames, and refuses a router and a way
@@ -162,16 +186,9 @@ pub extern "C" fn scion_whole_packet_step(
         packet.old packet.new result }
 {
     let mut room = room();
-    let view = match view(&mut room, router) {
-        Ok(view) => view,
-        Err(refusal) => return refusal,
-    };
-    let Some(arrival) = arrival_of(arrival, interface) else {
-        return bad_call();
-    };
-    match turn(&view, now, arrival, packet) {
-        Ok(outcome) => outcome_answer(outcome),
-        Err(refusal) => turn_answer(refusal),
+    match view(&mut room, router) {
+        Ok(view) => turn_packet(&view, now, arrival, interface, packet),
+        Err(refusal) => refusal,
     }
 }
 

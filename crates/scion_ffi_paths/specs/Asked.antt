@@ -1,6 +1,7 @@
 -- Requests: JSON objects with members of a line `ask`, and with `now` and the list `segments`, each
 -- in the form in which segments are printed.
-use Rattle.std.specs.Prelude.{ℕ, codes, List, [], ◌∷◌, length, nat_le, Option, Some, None, Result, Ok, Err}
+use Rattle.std.specs.Prelude.{ℕ, ◌≤◌, codes, List, [], ◌∷◌, length, nat_le, Option, Some, None, Result, Ok, Err, IsTrue}
+use Rattle.std.specs.Str.{is_utf8}
 use Rattle.refusal.specs.Refusal.{◌>>=◌, check, refused_as}
 use Rattle.serde_json.specs.Data.{Data, Items, no_items, item}
 use Rattle.json_fields.specs.Fields.{document_in, list_at}
@@ -26,6 +27,10 @@ unfoldable pub value_asked : List ℕ → Result Data RequestFault
 value_asked bytes = do
   _ ← check (nat_le (length bytes) most_request) BadRequest
   found_or_bad_request (document_in bytes)
+
+-- memory may be wanted for a request in these bytes: they are not too many, and they are UTF-8
+abbrev pub MayWantMemory : List ℕ → Type 0
+MayWantMemory bytes = (length bytes ≤ most_request) × IsTrue (is_utf8 bytes)
 
 -- the segment of a JSON value, or why it is refused
 abbrev pub segment_asked : Data → Result Chain RequestFault

@@ -1,11 +1,13 @@
 #![tactic(auto, unfolding(crate::specs::Text::fault_json))]
 
-ghost use Rattle.std.specs.Prelude.{◌≡◌, Some};
+ghost use Rattle.std.specs.Prelude.{◌≡◌, ◌≤◌, Some, length};
 ghost use Rattle.scion_ffi_paths.specs.Fault as faults;
 ghost use Rattle.scion_ffi_paths.specs.Fault.{of_segment};
 ghost use Rattle.scion_ffi_paths.specs.Text.{fault_json};
 
+use arrayvec::ArrayString;
 use combinator::{BAD_LIMIT, CombineFault};
+use itoa::Buffer;
 use path_header::HeaderFault;
 use path_segment::SegmentFault;
 use path_verifier::VerifyFault;
@@ -32,7 +34,35 @@ pub enum RequestFault {
     Path(VerifyFault),
 }
 
+/// The room for the text of a refusal.
+const MAX_TEXT_LEN: usize = 128;
+
 impl RequestFault {
+    /// Its text in an answer. It takes no memory, so that a refusal is told even where memory ran
+    /// out.
+    pub(crate) fn text(self) -> ArrayString<MAX_TEXT_LEN>
+        ensures { result.bytes ≡ fault_json self }
+    {
+        let (code, name) = self.code_and_short_name();
+        let mut digits = Buffer::new();
+        let mut text = ArrayString::new();
+        text.push_str("{\"code\":");
+        text.push_str(digits.format(code));
+        text.push_str(",\"name\":\"");
+        text.push_str(name);
+        text.push_str("\"}");
+        text
+    }
+
+    /// Its number and its name, which has at most 32 bytes.
+    fn code_and_short_name(self) -> (u16, &'static str)
+        ensures code { result.0 ≡ (faults.code_and_name self).0 }
+        ensures name { result.1.now ≡ (faults.code_and_name self).1 }
+        ensures short { length result.1.now ≤ 32 }
+    {
+        self.code_and_name()
+    }
+
     /// The refusal of a request because one of its segments is refused.
     pub(crate) fn of_segment(fault: SegmentFault) -> RequestFault
         ensures { result ≡ of_segment fault }
@@ -49,8 +79,7 @@ impl fmt::Display for RequestFault {
     ghost output = { λ fault. Some (fault_json fault) };
 
     fn fmt<W: fmt::Write>(&self, f: &mut fmt::Formatter<W>) -> fmt::Result {
-        let (code, name) = self.code_and_name();
-        write!(f, "{{\"code\":{code},\"name\":\"{name}\"}}")
+        f.write_str(self.text().as_str())
     }
 }
 

@@ -1,7 +1,7 @@
 //! Requests for paths.
 
-ghost use Rattle.std.specs.Prelude.{IfOk};
-ghost use Rattle.std.specs.String.{string_bytes};
+ghost use Rattle.std.specs.Prelude.{◌≡◌, IfErr};
+ghost use Rattle.scion_ffi_paths.specs.Asked.{MayWantMemory};
 ghost use Rattle.scion_ffi_paths.specs.Answer.{AnswersPaths, AnswersUnder, options_of_request};
 ghost use Rattle.scion_ffi_paths.specs.Room.{IsAnsweredInRoom};
 ghost use Rattle.scion_ffi_paths.specs.inner.Told.{Tells};
@@ -9,11 +9,11 @@ ghost use Rattle.scion_ffi_paths.specs.inner.Told.{Tells};
 use crate::answer::{options, selection};
 use crate::fault::RequestError;
 use crate::request::PathsRequest;
-use crate::room::{ScionText, put};
+use crate::room::{ScionText, put_answer};
 use crate::text;
 use combinator::combine;
 use refusal::OrMemory;
-use std::alloc::{AllocError, Global};
+use std::alloc::Global;
 
 /// The answer to a request.
 fn answer(alloc: Global, request: &PathsRequest) -> Result<String, RequestError>
@@ -32,21 +32,12 @@ fn answer(alloc: Global, request: &PathsRequest) -> Result<String, RequestError>
 
 /// The answer to the request in these bytes.
 fn answer_bytes(alloc: Global, bytes: &[u8]) -> Result<String, RequestError>
-    ensures { Tells (AnswersPaths bytes.now) result }
+    ensures told { Tells (AnswersPaths bytes.now) result }
+    ensures wanted { IfErr result (λ error. error ≡ OrMemory.Memory
+        → MayWantMemory bytes.now) }
 {
     let request = PathsRequest::read(alloc, bytes)?;
     answer(alloc, &request)
-}
-
-/// The text of the answer to the request in these bytes, which may be a refusal.
-fn text_of(alloc: Global, bytes: &[u8]) -> Result<String, AllocError>
-    ensures { IfOk result (λ text. AnswersPaths bytes.now (string_bytes text)) }
-{
-    match answer_bytes(alloc, bytes) {
-        Ok(text) => Ok(text),
-        Err(OrMemory::Refused(fault)) => text::refusal(alloc, fault),
-        Err(OrMemory::Memory) => Err(AllocError),
-    }
 }
 
 /// Writes the paths that answer a request into the room, best first, and which policy option was
@@ -58,8 +49,10 @@ fn text_of(alloc: Global, bytes: &[u8]) -> Result<String, AllocError>
 /// over a lookup in a store in which each segment was registered at `now`.
 #[unsafe(no_mangle)]
 pub extern "C" fn scion_paths(alloc: Global, request: &[u8], room: &mut [u8]) -> ScionText
-    ensures { IsAnsweredInRoom (AnswersPaths request.now) room.old room.new result }
+    ensures answered { IsAnsweredInRoom (AnswersPaths request.now) room.old room.new result }
+    // Memory can run out only if the request is UTF-8 and not too long.
+    ensures wanted { result.status ≡ 2 → MayWantMemory request.now }
 {
-    let text = text_of(alloc, request).ok();
-    put(&text, room)
+    let answer = answer_bytes(alloc, request);
+    put_answer(&answer, room)
 }

@@ -1,9 +1,10 @@
 //! Requests, as values.
-#![tactic(auto, unfolding(crate::specs::Asked::asked_in, crate::specs::Asked::paths_asked_in, crate::specs::Asked::value_asked,))]
+#![tactic(auto, unfolding(crate::specs::Asked::asked_in, crate::specs::Asked::paths_asked_in, crate::specs::Asked::value_asked, json_fields::specs::Fields::document_in,))]
 
+ghost use Rattle.std.specs.Prelude.{◌≡◌, IfErr, OnOk};
 ghost use Rattle.json_fields.specs.Documents.{document_data, node_data};
 ghost use Rattle.refusal.specs.Refusal.{Reads};
-ghost use Rattle.scion_ffi_paths.specs.Asked.{asked_in, paths_asked_in, value_asked};
+ghost use Rattle.scion_ffi_paths.specs.Asked.{MayWantMemory, asked_in, paths_asked_in, value_asked};
 
 use crate::fault::{RequestError, RequestFault};
 use crate::segment::segments;
@@ -26,7 +27,10 @@ pub(crate) fn read_document<'a>(
     room: &'a mut JsonRoom,
     bytes: &'a [u8],
 ) -> Result<Document<'a>, RequestError>
-    ensures { Reads (λ document. document_data document) result (value_asked bytes.now) }
+    ensures read { Reads (λ document. document_data document) result (value_asked bytes.now) }
+    ensures known { OnOk result (MayWantMemory bytes.now) }
+    ensures wanted { IfErr result (λ error. error ≡ OrMemory.Memory
+        → MayWantMemory bytes.now) }
 {
     if bytes.len() > MAX_REQUEST_LEN {
         return Err(OrMemory::Refused(RequestFault::BadRequest));
@@ -107,7 +111,10 @@ impl Model for PathsRequest {
 impl PathsRequest {
     /// The request for paths in these bytes, with the refusals of [`Request::of`].
     pub(crate) fn read(alloc: Global, bytes: &[u8]) -> Result<PathsRequest, RequestError>
-        ensures { Reads (λ r. r) result (paths_asked_in bytes.now) }
+        ensures read { Reads (λ r. r) result (paths_asked_in bytes.now) }
+        ensures known { OnOk result (MayWantMemory bytes.now) }
+        ensures wanted { IfErr result (λ error. error ≡ OrMemory.Memory
+            → MayWantMemory bytes.now) }
     {
         let mut room = JsonRoom::new(alloc);
         let document = read_document(alloc, &mut room, bytes)?;

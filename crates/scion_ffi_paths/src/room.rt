@@ -1,8 +1,11 @@
 //! The room of a host, into which an answer is written.
 
-ghost use Rattle.std.specs.Prelude.{option_map};
-ghost use Rattle.std.specs.String.{string_bytes};
+ghost use Rattle.std.specs.Prelude.{◌≡◌, ◌<◌, Err, Some};
 ghost use Rattle.scion_ffi_paths.specs.Room.{IsPut};
+ghost use Rattle.scion_ffi_paths.specs.inner.Told.{text_told};
+
+use crate::fault::RequestError;
+use refusal::OrMemory;
 
 /// What happened to an answer. `status` is 0 if its `len` bytes were written, 1 if the room has
 /// fewer than the `len` bytes that it needs, and 2 if memory ran out.
@@ -15,13 +18,24 @@ pub struct ScionText {
     pub len: usize,
 }
 
-/// Writes a text into the room, if there is one and it fits.
-pub(crate) fn put(text: &Option<String>, room: &mut [u8]) -> ScionText
-    ensures { IsPut (option_map string_bytes text.now) room.old room.new result }
+/// Writes the text of an answer or of a refusal into the room, if it fits and memory did not run
+/// out.
+pub(crate) fn put_answer(answer: &Result<String, RequestError>, room: &mut [u8]) -> ScionText
+    ensures put { IsPut (text_told answer.now) room.old room.new result }
+    ensures wanted { result.status ≡ 2 → answer.now ≡ Err OrMemory.Memory }
 {
-    let Some(text) = text else {
-        return ScionText { status: 2, len: 0 };
-    };
+    match answer {
+        Ok(text) => put(text.as_str(), room),
+        Err(OrMemory::Refused(fault)) => put(fault.text().as_str(), room),
+        Err(OrMemory::Memory) => ScionText { status: 2, len: 0 },
+    }
+}
+
+/// Writes a text into the room, if it fits.
+fn put(text: &str, room: &mut [u8]) -> ScionText
+    ensures put { IsPut (Some text.now) room.old room.new result }
+    ensures told { result.status < 2 }
+{
     let bytes = text.as_bytes();
     let len = bytes.len();
     if len > room.len() {

@@ -8,10 +8,9 @@ ghost use Rattle.hex.specs.Hex.{encode_lower};
 ghost use Rattle.path_header.specs.Spelling.{spelling};
 ghost use Rattle.event_lines.specs.Text.{hops_text, kinds_text};
 ghost use Rattle.path_verifier.specs.Piece.{HasRange};
-ghost use Rattle.scion_ffi_paths.specs.Text.{accepted_json, answer_json, fault_json, option_json, path_json, piece_json, place_in_list, truth_json};
+ghost use Rattle.scion_ffi_paths.specs.Text.{accepted_json, answer_json, option_json, path_json, piece_json, place_in_list, truth_json};
 
 use crate::expiry::{path_expiry, verified_expiry};
-use crate::fault::RequestFault;
 use combinator::{OwnedPiece, Path, PathList};
 use event_lines::{hops_text, kinds_text};
 use path_header::{Header, MAX_HEADER_LEN, encode};
@@ -181,11 +180,4 @@ pub(crate) fn verified_path(
         kinds.as_str(),
         walk.as_str()
     )
-}
-
-/// A refusal.
-pub(crate) fn refusal(alloc: Global, fault: RequestFault) -> Result<String, AllocError>
-    ensures { IfOk result (λ text. string_bytes text ≡ fault_json fault) }
-{
-    format!(in alloc; "{fault}")
 }

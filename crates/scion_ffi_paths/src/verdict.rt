@@ -1,11 +1,11 @@
 //! Requests to verify a path.
 #![tactic(auto, unfolding(crate::specs::Given::given_in, crate::specs::Given::given_with, crate::specs::Given::request_at, crate::specs::Given::request_under,))]
 
-ghost use Rattle.std.specs.Prelude.{IfOk};
-ghost use Rattle.std.specs.String.{string_bytes};
+ghost use Rattle.std.specs.Prelude.{◌≡◌, IfErr};
 ghost use Rattle.json_fields.specs.Documents.{node_data};
 ghost use Rattle.refusal.specs.Refusal.{Reads};
 ghost use Rattle.path_verifier.specs.Accepted.{request_of};
+ghost use Rattle.scion_ffi_paths.specs.Asked.{MayWantMemory};
 ghost use Rattle.scion_ffi_paths.specs.Given.{given_of, policy_asked, request_at, request_under};
 ghost use Rattle.scion_ffi_paths.specs.Room.{IsAnsweredInRoom};
 ghost use Rattle.scion_ffi_paths.specs.inner.Told.{AnswersGiven, Tells};
@@ -13,7 +13,7 @@ ghost use Rattle.scion_ffi_paths.specs.Verdict.{AnswersVerdict, AnswersVerify, I
 
 use crate::fault::{RequestError, RequestFault};
 use crate::request::{Request, read_document};
-use crate::room::{ScionText, put};
+use crate::room::{ScionText, put_answer};
 use crate::stretch::{join, pieces};
 use crate::text;
 use event_lines::fields::read_bytes;
@@ -22,7 +22,7 @@ use path_header::{Header, decode};
 use path_verifier::{Piece, Pieces, verify};
 use policy_expr::{OptionFault, OwnedOptionText, Policy};
 use refusal::OrMemory;
-use std::alloc::{AllocError, Global};
+use std::alloc::Global;
 
 /// The policy of the only option.
 fn policy(alloc: Global, options: &[OwnedOptionText]) -> Result<Policy<Global>, RequestError>
@@ -113,24 +113,15 @@ fn verdict_with(
 
 /// The answer to the request in these bytes.
 fn verdict(alloc: Global, bytes: &[u8]) -> Result<String, RequestError>
-    ensures { Tells (AnswersVerify bytes.now) result }
+    ensures told { Tells (AnswersVerify bytes.now) result }
+    ensures wanted { IfErr result (λ error. error ≡ OrMemory.Memory
+        → MayWantMemory bytes.now) }
 {
     let mut room = JsonRoom::new(alloc);
     let document = read_document(alloc, &mut room, bytes)?;
     let object = document.root();
     let request = Request::of(alloc, &object)?;
     verdict_with(alloc, &request, &object)
-}
-
-/// The text of the answer to the request in these bytes, which may be a refusal.
-fn text_of(alloc: Global, bytes: &[u8]) -> Result<String, AllocError>
-    ensures { IfOk result (λ text. AnswersVerify bytes.now (string_bytes text)) }
-{
-    match verdict(alloc, bytes) {
-        Ok(text) => Ok(text),
-        Err(OrMemory::Refused(fault)) => text::refusal(alloc, fault),
-        Err(OrMemory::Memory) => Err(AllocError),
-    }
 }
 
 /// Writes into the room whether a path may be sent. If so, it writes when the path expires, its
@@ -140,8 +131,10 @@ fn text_of(alloc: Global, bytes: &[u8]) -> Result<String, AllocError>
 /// `pieces` and `header`. The verdict is that of [`path_verifier::verify`] at `now`.
 #[unsafe(no_mangle)]
 pub extern "C" fn scion_verify(alloc: Global, request: &[u8], room: &mut [u8]) -> ScionText
-    ensures { IsAnsweredInRoom (AnswersVerify request.now) room.old room.new result }
+    ensures answered { IsAnsweredInRoom (AnswersVerify request.now) room.old room.new result }
+    // Memory can run out only if the request is UTF-8 and not too long.
+    ensures wanted { result.status ≡ 2 → MayWantMemory request.now }
 {
-    let text = text_of(alloc, request).ok();
-    put(&text, room)
+    let answer = verdict(alloc, request);
+    put_answer(&answer, room)
 }

@@ -139,6 +139,8 @@ impl<'a> RouterView<'a> {
 
     /// The interface of this number, if the AS has one. The view of a topology searches a tree for
     /// it; a view from [`RouterView::new`] goes through its list.
+    // Inlined, as all of a router's step.
+    #[inline(always)]
     pub fn entry(&self, number: IfId) -> Option<&'a IfEntry>
         ensures { option_copied result ≡ entry_of self.now number }
     {

@@ -1,5 +1,5 @@
 -- The output of `scionet_view report`: the report of the network after some lines.
-use Rattle.std.specs.Prelude.{◌≡◌, ℕ, ◌==◌, ◌&&◌, not, if◌then◌else◌, is_some, Bool, true, false, List, Option, Some, None}
+use Rattle.std.specs.Prelude.{◌≡◌, ◌⊎◌, ℕ, ◌==◌, ◌&&◌, not, if◌then◌else◌, is_some, Bool, true, false, List, Option, Some, None, Result, Ok, Err}
 use Rattle.std.specs.Option.{MatchOption}
 use Rattle.scion_topology.specs.declared.fault.TopologyFault.TheVariants.{UnknownAs}
 use Rattle.scion_topology.specs.Network.{Network, as_named}
@@ -7,9 +7,16 @@ use Rattle.combinator.specs.declared.fault.CombineFault.TheVariants.{SameAs}
 use Rattle.network_core.specs.declared.fault.EventFault.{EventFault}
 use Rattle.network_core.specs.declared.fault.EventFault.TheVariants.{Combination, Topology}
 use Rattle.network_core.specs.Value.{NetValue}
-use Rattle.path_report.specs.Report.{ReportOptionsValue, IsReport}
+use Rattle.event_lines.specs.declared.accepted.AcceptedLines.TheVariants.{All}
+use Rattle.event_lines.specs.declared.fault.RunFault.{RunFault}
+use Rattle.event_lines.specs.declared.fault.RunFault.TheVariants.{Memory, Write}
+use Rattle.event_lines.specs.Run.{Listens}
+use Rattle.path_report.specs.declared.fault.ReportFault.{ReportFault}
+use Rattle.path_report.specs.declared.fault.ReportFault.TheVariants as reports
+use Rattle.path_report.specs.Report.{ReportOptionsValue, IsReport, BeginsReport}
 use Rattle.scionet_view.specs.declared.report_words.ReportWords.{ReportWords}
 use Rattle.scionet_view.specs.Network.{fault_line}
+use Rattle.scionet_view.specs.Reached.{Begins, Writes}
 
 -- what the words want a report of
 abbrev pub wanted_by : ReportWords → ReportOptionsValue
@@ -41,3 +48,24 @@ report_fault network from to =
 abbrev pub TellsReport : ReportOptionsValue → NetValue → List ℕ → Type 0
 TellsReport wanted net text = MatchOption (report_fault net.network wanted.from wanted.to)
     (IsReport net wanted text) (λ fault. text ≡ fault_line fault)
+
+-- the text is a beginning of that
+abbrev pub BeginsTelling : ReportOptionsValue → NetValue → List ℕ → Type 0
+BeginsTelling wanted net text = MatchOption (report_fault net.network wanted.from wanted.to)
+    (BeginsReport net wanted text) (λ fault. Begins (fault_line fault) text)
+
+-- the lines of the source gave no network, and nothing was written; or they gave one, and its report
+-- was written, or, before a fault, the beginning of it. The first two contents are what the source
+-- still had before and after it; the last two are what the sink held before and after it.
+abbrev pub ShowsReport : (wanted : ReportOptionsValue) (result : Result (Unit {0}) RunFault)
+    (before after held holds : Option (List ℕ)) → Type 0
+ShowsReport wanted result before after held holds =
+    ((fault : RunFault) × ((result ≡ Err fault)
+    × (Listens All (Err fault) before after None None × (holds ≡ held))))
+    ⊎ ((net : NetValue) × (Listens All (Ok net) before after None None
+    × Writes (TellsReport wanted net) (BeginsTelling wanted net) result held holds))
+
+-- a fault of a report as one of a run
+abbrev pub run_fault : ReportFault → RunFault
+run_fault reports.Memory = Memory
+run_fault reports.Write = Write

@@ -19,7 +19,7 @@ pub(crate) fn beacons<S: Source>(
 ) -> Result<String, CommandFault>
     ensures { IfOk result (λ text. (bytes : List ℕ)
         × (Consumes (S.left source.old) (S.left source.new) bytes
-        × AreBeaconLines options.entry.now.now (one_line bytes) (string_bytes text))) }
+        × AreBeaconLines options.entry.now (one_line bytes) (string_bytes text))) }
 {
     let topology = read_all(alloc, source, MAX_INPUT_LEN as u64)?;
     match beacon_lines(alloc, topology, options) {

@@ -43,8 +43,8 @@ fn packet_text<S: Source>(
     Ok(lines)
 }
 
-/// Shows what the view wants of the bytes of the source: an explanation line by line, and anything
-/// else at once.
+/// Shows what the view wants of the bytes of the source: an explanation and a report line by line,
+/// and anything else at once.
 fn show_view<S: Source, K: Sink>(
     alloc: Global,
     view: &View,
@@ -55,7 +55,7 @@ fn show_view<S: Source, K: Sink>(
         View::Explain => return Ok(explanation(alloc, source, sink)?),
         View::Packet(command) => packet_text(alloc, command, source)?,
         View::Network(subject) => network_picture(alloc, source, *subject)?,
-        View::Report(words) => network_report(alloc, source, words)?,
+        View::Report(words) => return Ok(network_report(alloc, source, words, sink)?),
         View::Beacons(options) => beacons(alloc, source, options)?,
         View::Path(Subject::Packet(number)) => packet_path(alloc, source, *number)?,
         View::Path(Subject::Answer { answer, path }) => {

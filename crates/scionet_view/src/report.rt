@@ -1,11 +1,11 @@
 //! The report of the network after some lines.
 
-ghost use Rattle.std.specs.Prelude.{◌≡◌, ◌||◌, IfOk};
-ghost use Rattle.std.specs.String.{string_bytes};
-ghost use Rattle.event_lines.specs.Run.{is_read_fault};
-ghost use Rattle.path_report.specs.Report.{IsReport};
-ghost use Rattle.scionet_view.specs.Reached.{Shows};
-ghost use Rattle.scionet_view.specs.Report.{TellsReport, are_one, has_named, report_fault, wanted_by};
+ghost use Rattle.std.specs.Prelude.{◌≡◌, ◌||◌};
+ghost use Rattle.event_lines.specs.Run.{is_read_fault, is_write_fault};
+ghost use Rattle.scionet_view.specs.Network.{fault_line};
+ghost use Rattle.path_report.specs.Report.{BeginsReport, IsReport};
+ghost use Rattle.scionet_view.specs.Reached.{Begins, Writes};
+ghost use Rattle.scionet_view.specs.Report.{BeginsTelling, ShowsReport, TellsReport, are_one, has_named, report_fault, run_fault, wanted_by};
 
 use crate::network::fault_line;
 use crate::network_after::network_after;
@@ -14,10 +14,10 @@ use combinator::CombineFault;
 use event_lines::RunFault;
 use isd_as::IsdAs;
 use network_core::{EventFault, Net};
-use path_report::{ReportOptions, path_report};
+use path_report::{ReportFault, ReportOptions, path_report};
 use scion_topology::{Topology, TopologyFault};
-use std::alloc::{AllocError, Global};
-use streams::Source;
+use std::alloc::Global;
+use streams::{Sink, Source, write_all};
 
 /// Whether a topology has this AS, if one is named.
 fn has_named(topology: &Topology, named: Option<IsdAs>) -> bool
@@ -54,9 +54,27 @@ fn report_fault(topology: &Topology, from: Option<IsdAs>, to: Option<IsdAs>) -> 
     None
 }
 
-/// The report of a network.
-fn wanted_report(alloc: Global, net: &Net, words: &ReportWords) -> Result<String, AllocError>
-    ensures { IfOk result (λ text. IsReport net.now (wanted_by words.now) (string_bytes text)) }
+/// The fault of a run over lines that a fault of a report is.
+fn run_fault(fault: ReportFault) -> RunFault
+    ensures { result ≡ run_fault fault }
+{
+    match fault {
+        ReportFault::Memory => RunFault::Memory,
+        ReportFault::Write => RunFault::Write,
+    }
+}
+
+/// Writes the report of a network.
+fn write_wanted<K: Sink>(
+    alloc: Global,
+    net: &Net,
+    words: &ReportWords,
+    sink: &mut K,
+) -> Result<(), RunFault>
+    ensures written { let wanted = wanted_by words.now in
+        Writes (IsReport net.now wanted) (BeginsReport net.now wanted) result
+        (K.held sink.old) (K.held sink.new) }
+    ensures flag { K.failed sink.new ≡ (K.failed sink.old || is_write_fault result) }
 {
     let wanted = ReportOptions {
         from: words.from,
@@ -64,37 +82,53 @@ fn wanted_report(alloc: Global, net: &Net, words: &ReportWords) -> Result<String
         policy: &words.policy,
         limit: words.limit,
     };
-    path_report(alloc, net, &wanted)
+    path_report(alloc, net, &wanted, sink).map_err(run_fault)
 }
 
-/// The report of a network, or the line that says why there is none.
-fn report_text(alloc: Global, net: &Net, words: &ReportWords) -> Result<String, AllocError>
-    ensures { IfOk result
-        (λ text. TellsReport (wanted_by words.now) net.now (string_bytes text)) }
+/// Writes the line that says why there is no report.
+fn write_fault<K: Sink>(alloc: Global, fault: EventFault, sink: &mut K) -> Result<(), RunFault>
+    ensures written { Writes (λ text. text ≡ fault_line fault) (Begins (fault_line fault)) result
+        (K.held sink.old) (K.held sink.new) }
+    ensures flag { K.failed sink.new ≡ (K.failed sink.old || is_write_fault result) }
+{
+    let line = fault_line(alloc, fault)?;
+    write_all(sink, line.as_bytes()).map_err(|_| RunFault::Write)
+}
+
+/// Writes the report of a network, or the line that says why there is none.
+fn write_report<K: Sink>(
+    alloc: Global,
+    net: &Net,
+    words: &ReportWords,
+    sink: &mut K,
+) -> Result<(), RunFault>
+    ensures written { let wanted = wanted_by words.now in
+        Writes (TellsReport wanted net.now) (BeginsTelling wanted net.now) result
+        (K.held sink.old) (K.held sink.new) }
+    ensures flag { K.failed sink.new ≡ (K.failed sink.old || is_write_fault result) }
 {
     match report_fault(net.topology(), words.from, words.to) {
-        Some(fault) => fault_line(alloc, fault),
-        None => wanted_report(alloc, net, words),
+        Some(fault) => write_fault(alloc, fault, sink),
+        None => write_wanted(alloc, net, words, sink),
     }
 }
 
-/// The report of the network after the lines of a source; or the line `no 14 UnknownAs`, if an AS
-/// is named that the topology does not have, or `no 85 SameAs`, if one is named twice.
+/// Writes the report of the network after the lines of a source, line by line; or the line
+/// `no 14 UnknownAs`, if an AS is named that the topology does not have, or `no 85 SameAs`, if one
+/// is named twice.
 ///
-/// The faults are those of [`listen`](event_lines::listen) without [`RunFault::Write`];
-/// [`RunFault::Memory`] also if memory runs out for the report.
-pub(crate) fn network_report<S: Source>(
+/// The faults are those of [`listen`](event_lines::listen), before anything is written; and then
+/// [`RunFault::Memory`], if memory runs out for the report, and [`RunFault::Write`].
+pub(crate) fn network_report<S: Source, K: Sink>(
     alloc: Global,
     source: &mut S,
     words: &ReportWords,
-) -> Result<String, RunFault>
-    ensures shows { Shows (TellsReport (wanted_by words.now)) result
-        (S.left source.old) (S.left source.new) }
+    sink: &mut K,
+) -> Result<(), RunFault>
+    ensures shows { ShowsReport (wanted_by words.now) result
+        (S.left source.old) (S.left source.new) (K.held sink.old) (K.held sink.new) }
     ensures flag { S.failed source.new ≡ (S.failed source.old || is_read_fault result) }
 {
-    let text = {
-        let net = network_after(alloc, source)?;
-        report_text(alloc, &net, words)
-    };
-    Ok(text?)
+    let net = network_after(alloc, source)?;
+    write_report(alloc, &net, words, sink)
 }

@@ -19,8 +19,12 @@ use Rattle.network_core.specs.Delivery.{HasSentFrame, IsFramed}
 use Rattle.path_verifier.specs.declared.fault.VerifyFault.{VerifyFault}
 use Rattle.path_verifier.specs.Accepted.{IsAccepted, IsRefused}
 
--- the call did what was to be made, or returns its refusal or that memory ran out, and changed
--- nothing
+-- the call did what was to be made, or returns its refusal and changed nothing
+abbrev pub Does : Made → NetValue → NetValue → Result Reply EventFault → Type 0
+Does made old new (Ok reply) = made ≡ Ok (reply, new)
+Does made old new (Err fault) = (made ≡ Err fault) × (new ≡ old)
+
+-- the same of a call that takes memory: or memory ran out, and it changed nothing
 abbrev pub DoesOrFails : Made → Type 0 → NetValue → NetValue → Result Reply (OrMemory EventFault)
     → Type 0
 DoesOrFails made takes old new (Ok reply) = made ≡ Ok (reply, new)
@@ -76,8 +80,8 @@ KeepsAnswer one old new (Err Memory) = new ≡ old
 KeepsAnswer one old new (Err (Refused fault)) = ⊥
 
 -- the call returns the router at which a packet by this way departs, or the refusal of each
--- shipment by it; it takes no memory
-abbrev pub BeginsAt : NetValue → Way → Result ℕ (OrMemory EventFault) → Type 0
+-- shipment by it
+abbrev pub BeginsAt : NetValue → Way → Result ℕ EventFault → Type 0
 BeginsAt net way (Ok router) =
     IsAccepted (asked_at net.moment way) × ((payload : List ℕ)
     → departs net (record { way = way; payload = payload })
@@ -87,11 +91,10 @@ BeginsAt net way (Ok router) =
         packets = net.packets ++ packet_of (record { way = way; payload = payload }) router ∷ [];
       },
     ))
-BeginsAt net way (Err (Refused fault)) =
+BeginsAt net way (Err fault) =
     ((first : VerifyFault) × (IsRefused (asked_at net.moment way) first × (fault ≡ Path first)))
     ⊎ (IsAccepted (asked_at net.moment way) × ((payload : List ℕ)
     → departs net (record { way = way; payload = payload }) ≡ Err fault))
-BeginsAt net way (Err Memory) = ⊥
 
 -- the call returns the packet of the shipment, ready to be sent, or its refusal, or memory ran out
 abbrev pub Readies : {X : Type 0} → (X → PacketValue) → NetValue → Shipment
@@ -118,13 +121,6 @@ abbrev pub ReadiesFrom : {X : Type 0} → (X → PacketValue) → NetValue
 ReadiesFrom view net (Ok sent) answer = Readies view net sent answer
 ReadiesFrom view net (Err fault) answer = answer ≡ Err (Refused fault)
 
--- the call returns what was judged, or the refusal; it takes no memory
-abbrev pub JudgesEvent : {X Y : Type 0} → (X → Y) → Result X (OrMemory EventFault)
-    → Result Y EventFault → Type 0
-JudgesEvent view (Ok x) wanted = wanted ≡ Ok (view x)
-JudgesEvent view (Err (Refused fault)) wanted = wanted ≡ Err fault
-JudgesEvent view (Err Memory) wanted = ⊥
-
 -- the call added the packet at the end of the list, or memory ran out
 abbrev pub KeepsPacket : PacketValue → NetValue → NetValue → Result Reply (OrMemory EventFault)
     → Type 0
@@ -135,8 +131,7 @@ KeepsPacket packet old new (Err Memory) = new ≡ old
 KeepsPacket packet old new (Err (Refused fault)) = ⊥
 
 -- the call returns the place of a packet that is in flight, or why there is none
-abbrev pub Flies : NetValue → ℕ → Result ℕ (OrMemory EventFault) → Type 0
+abbrev pub Flies : NetValue → ℕ → Result ℕ EventFault → Type 0
 Flies net number (Ok place) = (place ≡ number) × ((one : PacketValue)
     × ((slice_get net.packets number ≡ Some one) × (flying_at net number ≡ Ok one)))
-Flies net number (Err (Refused fault)) = flying_at net number ≡ Err fault
-Flies net number (Err Memory) = ⊥
+Flies net number (Err fault) = flying_at net number ≡ Err fault

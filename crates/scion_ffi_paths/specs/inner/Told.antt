@@ -1,6 +1,6 @@
 -- An answer that is a text, or a refusal that is not written as a text yet; and the answer to a
 -- request of which a part was read (words of private functions' contracts).
-use Rattle.std.specs.Prelude.{ℕ, List, Result, Ok, Err, String}
+use Rattle.std.specs.Prelude.{ℕ, List, Option, Some, None, Result, Ok, Err, IfSome, String}
 use Rattle.std.specs.declared.alloc.Global.{Global}
 use Rattle.std.specs.String.{string_bytes}
 use Rattle.refusal.specs.declared.fault.OrMemory.{OrMemory}
@@ -13,12 +13,16 @@ use Rattle.scion_ffi_paths.specs.Given.{given_with, request_at}
 use Rattle.scion_ffi_paths.specs.Text.{fault_json}
 use Rattle.scion_ffi_paths.specs.Verdict.{AnswersVerdict}
 
--- the text, or that of the refusal, is an answer; if memory ran out, nothing is claimed
+-- the text that is told: that of the answer or of the refusal; none if memory ran out
+abbrev pub text_told : Result (String Global) (OrMemory RequestFault) → Option (List ℕ)
+text_told (Ok text) = Some (string_bytes text)
+text_told (Err Memory) = None
+text_told (Err (Refused fault)) = Some (fault_json fault)
+
+-- the text that is told is an answer; if memory ran out, nothing is claimed
 abbrev pub Tells : (List ℕ → Type 0) → Result (String Global) (OrMemory RequestFault)
     → Type 0
-Tells answers (Ok text) = answers (string_bytes text)
-Tells answers (Err Memory) = Unit {0}
-Tells answers (Err (Refused fault)) = answers (fault_json fault)
+Tells answers result = IfSome (text_told result) answers
 
 -- the text answers the request to verify in this JSON value, whose common part is this one
 abbrev pub AnswersGiven : Asked → Data → List ℕ → Type 0

@@ -9,4 +9,5 @@ use Rattle.beacon_lines.proofs.lines.push_lines.Given as goal
 abbrev pub invariant-loop-event : goal.invariant-loop-event
 invariant-loop-event l =
     string_bytes l.text
-    ≡ string_bytes l.initial.text ++ flat_map (λ event. event_line (network_event event)) (take l.event-index l.events)
+    ≡ string_bytes l.initial.text ++ flat_map (λ event. event_line (network_event event))
+    (take l.event-index l.events)

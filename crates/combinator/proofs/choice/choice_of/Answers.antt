@@ -1,9 +1,11 @@
 use Rattle.std.proofs.Common.{◌≡◌, subst}
 use Rattle.std.specs.Prelude.{IfSome, slice_get}
-use Rattle.combinator.specs.Answer.{AnswersWith}
+use Rattle.policy_expr.specs.Options.{WeighedRules}
+use Rattle.combinator.specs.Candidate.{AreSpelled}
+use Rattle.combinator.specs.Answer.{AnswersWith, question_under}
 use Rattle.combinator.specs.Choice.{ChosenValue}
 use Rattle.combinator.specs.inner.Over.{AreGroupsOf}
-use Rattle.combinator.proofs.Choosing.{IsChoiceAt, answers_none, answers_under, has_weight, may_choose, on_ok}
+use Rattle.combinator.proofs.Choosing.{IsChoiceAt, answers_none, answers_under, each_spelled, has_weight, may_choose, on_ok}
 use Rattle.combinator.proofs.choice.choice_of.Goals as goal
 
 pub option_to_try-requires : goal.option_to_try-requires
@@ -46,3 +48,21 @@ returns-clause-answers g c =
     let ask = c.args.request.now in
     answers_none ask.set.now ask.src ask.dst ask.options.now ask.limit c.none.result.used c.none.result.paths
     c.none.ensures.used c.none.ensures.paths c.in-None.ensures.none
+
+pub returns-in-Some-clause-spelled : goal.returns-in-Some-clause-spelled
+returns-in-Some-clause-spelled g c =
+    let ask = c.args.request.now in
+    let pieces = c.in_ok-pieces.ensures in
+    let search = may_choose ask.set.now ask.src ask.dst c.in_ok-groups.groups c.in_ok-pieces.pieces.items pieces.own pieces.live pieces.whole pieces.fields
+    (subst (AreGroupsOf c.in_ok-groups.groups) c.deref.ensures.value c.in_ok-groups.ensures) in
+    on_ok (IsChoiceAt ask.set.now ask.src ask.dst ask.options.now ask.limit c.in-Some.place)
+    (λ choice. (option : WeighedRules) → AreSpelled (question_under ask.set.now ask.src ask.dst option))
+    c.choice_under.result (λ choice is. each_spelled ask.set.now ask.src ask.dst c.in_ok-groups.groups search) c.choice_under.ensures
+
+pub returns-clause-spelled : goal.returns-clause-spelled
+returns-clause-spelled g c =
+    let ask = c.args.request.now in
+    let pieces = c.in_ok-pieces.ensures in
+    each_spelled ask.set.now ask.src ask.dst c.in_ok-groups.groups
+    (may_choose ask.set.now ask.src ask.dst c.in_ok-groups.groups c.in_ok-pieces.pieces.items pieces.own pieces.live pieces.whole pieces.fields
+    (subst (AreGroupsOf c.in_ok-groups.groups) c.deref.ensures.value c.in_ok-groups.ensures))

@@ -3,34 +3,32 @@ use Rattle.path_verifier.specs.Piece.{ends_in, kind_of}
 use Rattle.path_verifier.specs.Accepted.{MayAdjoin}
 use Rattle.combinator.specs.Candidate.{Question, PathValue}
 use Rattle.combinator.specs.inner.Front.{groups_in}
-use Rattle.combinator.specs.inner.Group.{GroupValue, IsGroup}
-use Rattle.combinator.specs.inner.Over.{OfChoices, OfEachOver}
+use Rattle.combinator.specs.inner.Group.{GroupValue}
+use Rattle.combinator.specs.inner.Over.{OfChoices}
 use Rattle.combinator.specs.inner.Search.{AreBefore, IsMetBy}
-use Rattle.combinator.proofs.Over.{group_there}
 use Rattle.combinator.proofs.Facts.{met_where_none}
-use Rattle.combinator.proofs.Passing.{choices_met_on, barred, behind_end, elsewhere, all_behind, longer_behind}
-use Rattle.combinator.proofs.Trying.{WasTriedOver, tried_more, none_tried, all_tried, of_part, for_more}
+use Rattle.combinator.proofs.Passing.{choices_met_on, elsewhere, all_behind, longer_behind}
+use Rattle.combinator.proofs.Stepping.{barred_tried, end_tried, further_tried, here_is, last_tried, one_tried, there}
+use Rattle.combinator.proofs.Trying.{all_tried, for_more}
 use Rattle.combinator.proofs.search.Search.+try_behind.Goals as goal
 
 pub loop-group-preserved-then-not-may_go_on : goal.loop-group-preserved-then-not-may_go_on
 loop-group-preserved-then-not-may_go_on g t c =
     let a = c.args in
     let question = a.self.now.ask.now in
+    let limit = a.self.now.limit in
     let groups = a.self.now.groups.now in
-    let kept = c.loop-group.state.kept.items in
-    let fact = OfChoices (IsMetBy question a.self.now.limit kept) in
     let front = groups_in a.front.now in
     let group = c.group-item.result in
-    let there = of_part groups c.groups_from-next_groups.result.now a.at c.loop-group.group-index group c.groups_from-next_groups.ensures
-    c.loop-group-test.true c.group-item.is in
-    let is = group_there IsGroup groups group c.requires.search.are.each there in
+    let kept = c.loop-group.state.kept.items in
+    let fact = IsMetBy question limit kept in
     let bars = c.may_go_on.ensures c.if-not-may_go_on.true in record {
       kept = c.loop-group.invariant.kept;
       still = c.loop-group.invariant.still;
-      met = tried_more fact fact groups c.groups_from-next_groups.result.now (a.depth - 1) front a.at c.loop-group.group-index group
-          c.loop-group-test.true c.group-item.is (λ list fine. fine) c.loop-group.invariant.met
-          (barred question (IsMetBy question a.self.now.limit kept) (met_where_none question a.self.now.limit kept) groups c.requires.search.are.each front group c.requires.front.are is bars.0 bars.1 bars.2
-          (λ may. bars.3 (subst (MayAdjoin (kind_of bars.1.head)) (sym c.kind.ensures) may)) (a.depth - 1) a.at);
+      met = barred_tried question groups c.requires.search front c.requires.front (a.depth - 1) a.at c.groups_from-next_groups.result.now
+          c.groups_from-next_groups.ensures c.loop-group.group-index group c.loop-group-test.true c.group-item.is
+          fact fact (met_where_none question limit kept) (λ list fine. fine) c.loop-group.invariant.met
+          bars.0 bars.1 bars.2 (λ may. bars.3 (subst (MayAdjoin (kind_of bars.1.head)) (sym c.kind.ensures) may));
     }
 
 pub loop-group-preserved-then-is_behind : goal.loop-group-preserved-then-is_behind
@@ -39,18 +37,18 @@ loop-group-preserved-then-is_behind g t c =
     let question = a.self.now.ask.now in
     let limit = a.self.now.limit in
     let groups = a.self.now.groups.now in
-    let kept = c.loop-group.state.kept.items in
-    let fact = OfChoices (IsMetBy question limit kept) in
     let front = groups_in a.front.now in
     let group = c.group-item.result in
-    let there = of_part groups c.groups_from-next_groups.result.now a.at c.loop-group.group-index group c.groups_from-next_groups.ensures
-    c.loop-group-test.true c.group-item.is in
-    let is = group_there IsGroup groups group c.requires.search.are.each there in record {
+    let kept = c.loop-group.state.kept.items in
+    let fact = IsMetBy question limit kept in
+    let here = here_is question groups c.requires.search front c.requires.front (a.depth - 1) a.at c.groups_from-next_groups.result.now
+    c.groups_from-next_groups.ensures c.loop-group.group-index group c.loop-group-test.true c.group-item.is in record {
       kept = c.loop-group.invariant.kept;
       still = c.loop-group.invariant.still;
-      met = tried_more fact fact groups c.groups_from-next_groups.result.now (a.depth - 1) front a.at c.loop-group.group-index group
-          c.loop-group-test.true c.group-item.is (λ list fine. fine) c.loop-group.invariant.met
-          (all_behind question limit kept groups c.requires.search.are.each front group c.requires.front.are is 0
+      met = one_tried question groups c.requires.search front c.requires.front (a.depth - 1) a.at c.groups_from-next_groups.result.now
+          c.groups_from-next_groups.ensures c.loop-group.group-index group c.loop-group-test.true c.group-item.is
+          fact fact (met_where_none question limit kept) (λ list fine. fine) c.loop-group.invariant.met
+          (all_behind question limit kept groups c.requires.search.are.each front group c.requires.front.are here 0
           (subst (λ (paths : List PathValue). OfChoices (λ pieces. AreBefore limit paths pieces 0) (front ++ group ∷ [])) c.deref.ensures.value
           (c.is_behind.ensures c.if-is_behind.true)) refl (a.depth - 1) a.at);
     }
@@ -58,10 +56,14 @@ loop-group-preserved-then-is_behind g t c =
 pub consider-requires-clause-front : goal.consider-requires-clause-front
 consider-requires-clause-front g t c =
     let a = c.args in
+    let question = a.self.now.ask.now in
+    let limit = a.self.now.limit in
     let groups = a.self.now.groups.now in
-    let there = of_part groups c.groups_from-next_groups.result.now a.at c.loop-group.group-index c.group-item.result c.groups_from-next_groups.ensures
-    c.loop-group-test.true c.group-item.is in
-    for_more a.self.now.ask.now groups c.requires.search (groups_in a.front.now) (groups_in c.with-longer.result) c.group-item.result there
+    let front = groups_in a.front.now in
+    let group = c.group-item.result in
+    for_more question groups c.requires.search front (groups_in c.with-longer.result) group
+    (there question groups c.requires.search front c.requires.front (a.depth - 1) a.at c.groups_from-next_groups.result.now
+    c.groups_from-next_groups.ensures c.loop-group.group-index group c.loop-group-test.true c.group-item.is)
     c.with-longer.ensures c.requires.front
 
 pub loop-group-preserved-then-eq : goal.loop-group-preserved-then-eq
@@ -70,26 +72,19 @@ loop-group-preserved-then-eq g t c =
     let question = a.self.now.ask.now in
     let limit = a.self.now.limit in
     let groups = a.self.now.groups.now in
-    let before = c.loop-group.state.kept.items in
-    let after = c.consider.new.state.kept.items in
-    let fact = OfChoices (IsMetBy question limit after) in
     let front = groups_in a.front.now in
     let group = c.group-item.result in
-    let there = of_part groups c.groups_from-next_groups.result.now a.at c.loop-group.group-index group c.groups_from-next_groups.ensures
-    c.loop-group-test.true c.group-item.is in
-    let is = group_there IsGroup groups group c.requires.search.are.each there in
-    let dst : c.ask.inside.dst ≡ question.dst = ap (λ (q : Question). q.dst) c.ask.view_is in
-    let ends : ends_in group.head ≡ question.dst =
-    sym c.ends-end.ensures ∙ eqb-true c.ends-end.result c.ask.inside.dst (sym c.eq.ensures ∙ c.if-eq.true) ∙ dst in
-    let here : WasTriedOver fact groups (a.depth - 1) front a.at group = λ begins. (
-      subst fact c.with-longer.ensures c.in_ok-consider.ensures.met,
-      behind_end question (IsMetBy question limit after) (met_where_none question limit after) groups c.requires.search.are.each front group c.requires.front.are is ends (a.depth - 1) (ends_in group.head),
-    ) in record {
+    let old = c.loop-group.state.kept.items in
+    let new = c.consider.new.state.kept.items in
+    let dst : c.ask.inside.dst ≡ question.dst = ap (λ (q : Question). q.dst) c.ask.view_is in record {
       kept = c.in_ok-consider.ensures.kept;
       still = λ path met. c.in_ok-consider.ensures.still path (c.loop-group.invariant.still path met);
-      met = tried_more (OfChoices (IsMetBy question limit before)) fact groups c.groups_from-next_groups.result.now (a.depth - 1) front a.at
-          c.loop-group.group-index group c.loop-group-test.true c.group-item.is
-          (choices_met_on question limit before after c.in_ok-consider.ensures.still) c.loop-group.invariant.met here;
+      met = end_tried question groups c.requires.search front c.requires.front (a.depth - 1) a.at c.groups_from-next_groups.result.now
+          c.groups_from-next_groups.ensures c.loop-group.group-index group c.loop-group-test.true c.group-item.is
+          (IsMetBy question limit old) (IsMetBy question limit new) (met_where_none question limit new)
+          (choices_met_on question limit old new c.in_ok-consider.ensures.still) c.loop-group.invariant.met
+          (sym c.ends-end.ensures ∙ eqb-true c.ends-end.result c.ask.inside.dst (sym c.eq.ensures ∙ c.if-eq.true) ∙ dst)
+          (groups_in c.with-longer.result) c.with-longer.ensures c.in_ok-consider.ensures.met;
     }
 
 pub loop-group-preserved-then-depth-eq1 : goal.loop-group-preserved-then-depth-eq1
@@ -98,25 +93,20 @@ loop-group-preserved-then-depth-eq1 g t c =
     let question = a.self.now.ask.now in
     let limit = a.self.now.limit in
     let groups = a.self.now.groups.now in
-    let kept = c.loop-group.state.kept.items in
-    let fact = OfChoices (IsMetBy question limit kept) in
     let front = groups_in a.front.now in
     let group = c.group-item.result in
-    let there = of_part groups c.groups_from-next_groups.result.now a.at c.loop-group.group-index group c.groups_from-next_groups.ensures
-    c.loop-group-test.true c.group-item.is in
-    let is = group_there IsGroup groups group c.requires.search.are.each there in
+    let kept = c.loop-group.state.kept.items in
+    let fact = IsMetBy question limit kept in
     let dst : c.ask.inside.dst ≡ question.dst = ap (λ (q : Question). q.dst) c.ask.view_is in
     let apart : ¬ (ends_in group.head ≡ question.dst) = λ same. (
     let clash : false ≡ true = sym c.if-eq.false ∙ c.eq.ensures ∙ eq-eqb c.ends-end.result c.ask.inside.dst (c.ends-end.ensures ∙ same ∙ sym dst) in
-    cc) in
-    let here : WasTriedOver fact groups (a.depth - 1) front a.at group = λ begins. (
-      elsewhere question (IsMetBy question limit kept) (met_where_none question limit kept) groups c.requires.search.are.each front group c.requires.front.are is apart,
-      none_tried fact groups (a.depth - 1) (front ++ group ∷ []) (ends_in group.head) (let one = c.if-depth-eq1.true in omega (arith, one)),
-    ) in record {
+    cc) in record {
       kept = c.loop-group.invariant.kept;
       still = c.loop-group.invariant.still;
-      met = tried_more fact fact groups c.groups_from-next_groups.result.now (a.depth - 1) front a.at c.loop-group.group-index group
-          c.loop-group-test.true c.group-item.is (λ list fine. fine) c.loop-group.invariant.met here;
+      met = last_tried question groups c.requires.search front c.requires.front (a.depth - 1) a.at c.groups_from-next_groups.result.now
+          c.groups_from-next_groups.ensures c.loop-group.group-index group c.loop-group-test.true c.group-item.is
+          fact fact (met_where_none question limit kept) (λ list fine. fine) c.loop-group.invariant.met
+          apart (let one = c.if-depth-eq1.true in omega (arith, one));
     }
 
 pub loop-group-preserved-then-is_behind-2 : goal.loop-group-preserved-then-is_behind-2
@@ -125,45 +115,49 @@ loop-group-preserved-then-is_behind-2 g t c =
     let question = a.self.now.ask.now in
     let limit = a.self.now.limit in
     let groups = a.self.now.groups.now in
-    let kept = c.loop-group.state.kept.items in
-    let fact = OfChoices (IsMetBy question limit kept) in
     let front = groups_in a.front.now in
     let group = c.group-item.result in
-    let there = of_part groups c.groups_from-next_groups.result.now a.at c.loop-group.group-index group c.groups_from-next_groups.ensures
-    c.loop-group-test.true c.group-item.is in
-    let is = group_there IsGroup groups group c.requires.search.are.each there in
+    let kept = c.loop-group.state.kept.items in
+    let fact = IsMetBy question limit kept in
     let dst : c.ask.inside.dst ≡ question.dst = ap (λ (q : Question). q.dst) c.ask.view_is in
     let apart : ¬ (ends_in group.head ≡ question.dst) = λ same. (
     let clash : false ≡ true = sym c.if-eq.false ∙ c.eq.ensures ∙ eq-eqb c.ends-end.result c.ask.inside.dst (c.ends-end.ensures ∙ same ∙ sym dst) in
     cc) in
-    let here : WasTriedOver fact groups (a.depth - 1) front a.at group = λ begins. (
-      elsewhere question (IsMetBy question limit kept) (met_where_none question limit kept) groups c.requires.search.are.each front group c.requires.front.are is apart,
-      longer_behind question limit kept groups c.requires.search.are.each front group c.requires.front.are is 1
-          (subst (λ (paths : List PathValue). OfChoices (λ pieces. AreBefore limit paths pieces 1) (front ++ group ∷ [])) c.deref-in-loop-group.ensures.value
-          (c.is_behind-in-loop-group.ensures c.if-is_behind-2.true)) (omega arith) (a.depth - 1) (ends_in group.head),
-    ) in record {
+    let here = here_is question groups c.requires.search front c.requires.front (a.depth - 1) a.at c.groups_from-next_groups.result.now
+    c.groups_from-next_groups.ensures c.loop-group.group-index group c.loop-group-test.true c.group-item.is in record {
       kept = c.loop-group.invariant.kept;
       still = c.loop-group.invariant.still;
-      met = tried_more fact fact groups c.groups_from-next_groups.result.now (a.depth - 1) front a.at c.loop-group.group-index group
-          c.loop-group-test.true c.group-item.is (λ list fine. fine) c.loop-group.invariant.met here;
+      met = one_tried question groups c.requires.search front c.requires.front (a.depth - 1) a.at c.groups_from-next_groups.result.now
+          c.groups_from-next_groups.ensures c.loop-group.group-index group c.loop-group-test.true c.group-item.is
+          fact fact (met_where_none question limit kept) (λ list fine. fine) c.loop-group.invariant.met
+          (λ begins. (
+            elsewhere question fact (met_where_none question limit kept) groups c.requires.search.are.each front group c.requires.front.are here apart,
+            longer_behind question limit kept groups c.requires.search.are.each front group c.requires.front.are here 1
+                (subst (λ (paths : List PathValue). OfChoices (λ pieces. AreBefore limit paths pieces 1) (front ++ group ∷ [])) c.deref-in-loop-group.ensures.value
+                (c.is_behind-in-loop-group.ensures c.if-is_behind-2.true)) (omega arith) (a.depth - 1) (ends_in group.head),
+          ));
     }
 
 pub try_behind-requires : goal.try_behind-requires
 try_behind-requires g t c κs within =
     let a = c.args in
+    let question = a.self.now.ask.now in
+    let limit = a.self.now.limit in
     let groups = a.self.now.groups.now in
-    let there = of_part groups c.groups_from-next_groups.result.now a.at c.loop-group.group-index c.group-item.result c.groups_from-next_groups.ensures
-    c.loop-group-test.true c.group-item.is in
-    let more = for_more a.self.now.ask.now groups c.requires.search (groups_in a.front.now) (groups_in c.with-longer.result) c.group-item.result there
+    let front = groups_in a.front.now in
+    let group = c.group-item.result in
+    let longer = for_more question groups c.requires.search front (groups_in c.with-longer.result) group
+    (there question groups c.requires.search front c.requires.front (a.depth - 1) a.at c.groups_from-next_groups.result.now
+    c.groups_from-next_groups.ensures c.loop-group.group-index group c.loop-group-test.true c.group-item.is)
     c.with-longer.ensures c.requires.front in
     let long = ap (λ (gs : List GroupValue). length gs) c.with-longer.ensures in
-    let both = length-append (groups_in a.front.now) (c.group-item.result ∷ []) in
+    let both = length-append front (group ∷ []) in
     let some = c.requires.some in
     let few = c.requires.few in
     let apart = c.if-depth-eq1.false in
     let nearer = c.decreases in (
       omega (arith, nearer, some),
-      (within, (c.requires.search, (c.loop-group.invariant.kept, (more, (omega (arith, some, apart), omega (arith, long, both, few, some)))))),
+      (within, (c.requires.search, (c.loop-group.invariant.kept, (longer, (omega (arith, some, apart), omega (arith, long, both, few, some)))))),
     )
 
 pub loop-group-preserved : goal.loop-group-preserved
@@ -172,29 +166,21 @@ loop-group-preserved g t c =
     let question = a.self.now.ask.now in
     let limit = a.self.now.limit in
     let groups = a.self.now.groups.now in
-    let kept = c.loop-group.state.kept.items in
-    let fact = OfChoices (IsMetBy question limit kept) in
     let front = groups_in a.front.now in
     let group = c.group-item.result in
-    let there = of_part groups c.groups_from-next_groups.result.now a.at c.loop-group.group-index group c.groups_from-next_groups.ensures
-    c.loop-group-test.true c.group-item.is in
-    let is = group_there IsGroup groups group c.requires.search.are.each there in
+    let old = c.loop-group.state.kept.items in
+    let new = c.try_behind.new.state.kept.items in
     let dst : c.ask.inside.dst ≡ question.dst = ap (λ (q : Question). q.dst) c.ask.view_is in
     let apart : ¬ (ends_in group.head ≡ question.dst) = λ same. (
     let clash : false ≡ true = sym c.if-eq.false ∙ c.eq.ensures ∙ eq-eqb c.ends-end.result c.ask.inside.dst (c.ends-end.ensures ∙ same ∙ sym dst) in
-    cc) in
-    let after = c.try_behind.new.state.kept.items in
-    let now = OfChoices (IsMetBy question limit after) in
-    let here : WasTriedOver now groups (a.depth - 1) front a.at group = λ begins. (
-      elsewhere question (IsMetBy question limit after) (met_where_none question limit after) groups c.requires.search.are.each front group c.requires.front.are is apart,
-      subst (λ (gs : List GroupValue). OfEachOver now groups (a.depth - 1) gs (ends_in group.head)) c.with-longer.ensures
-          (subst (OfEachOver now groups (a.depth - 1) (groups_in c.with-longer.result)) c.ends-end.ensures c.in_ok-try_behind.ensures.met),
-    ) in record {
+    cc) in record {
       kept = c.in_ok-try_behind.ensures.kept;
       still = λ path met. c.in_ok-try_behind.ensures.still path (c.loop-group.invariant.still path met);
-      met = tried_more fact now groups c.groups_from-next_groups.result.now (a.depth - 1) front a.at c.loop-group.group-index group
-          c.loop-group-test.true c.group-item.is (choices_met_on question limit kept after c.in_ok-try_behind.ensures.still)
-          c.loop-group.invariant.met here;
+      met = further_tried question groups c.requires.search front c.requires.front (a.depth - 1) a.at c.groups_from-next_groups.result.now
+          c.groups_from-next_groups.ensures c.loop-group.group-index group c.loop-group-test.true c.group-item.is
+          (IsMetBy question limit old) (IsMetBy question limit new) (met_where_none question limit new)
+          (choices_met_on question limit old new c.in_ok-try_behind.ensures.still) c.loop-group.invariant.met
+          apart (groups_in c.with-longer.result) c.with-longer.ensures c.ends-end.result c.ends-end.ensures c.in_ok-try_behind.ensures.met;
     }
 
 pub returns-clause-met : goal.returns-clause-met
