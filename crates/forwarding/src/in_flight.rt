@@ -64,21 +64,6 @@ impl PacketInFlight {
         })
     }
 
-    /// A copy of the packet that owns its bytes, unless memory runs out.
-    pub fn try_clone(&self, alloc: Global) -> Result<PacketInFlight, AllocError>
-        ensures { IfOk result (λ copy. copy ≡ self.now) }
-    {
-        let mut passed = Vec::with_capacity(alloc, MAX_HOPS)?;
-        passed.extend_from_slice(&self.passed)?;
-        let mut bytes = Vec::with_capacity(alloc, self.bytes.len())?;
-        bytes.extend_from_slice(&self.bytes)?;
-        Ok(PacketInFlight {
-            bytes,
-            place: self.place,
-            passed,
-        })
-    }
-
     /// Its bytes.
     pub fn bytes(&self) -> &[u8]
         ensures { result.now ≡ self.now.bytes }
