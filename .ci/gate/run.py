@@ -58,6 +58,7 @@ STEPS = (
     Step("rows"),
     Step("row_lines"),
     Step("kit"),
+    Step("formatted"),
     Step("unit"),
     Step(BUILDS, ("ci",), minutes=600),
     Step("cases"),
