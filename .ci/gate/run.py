@@ -2,16 +2,19 @@
 come first, in seconds; then every proof, wrong body and test (`rt ci`); then what is tried over the
 programs that this has built, and over no others.
 
-It stops at the first step that fails. The last line has the number of steps that were run, and what
-was skipped in them since a tool is missing; with `--strict` a step that skips something fails."""
+It stops at the first step that fails. Before its last line it prints the processor minutes that the
+prover took for each crate. The last line has the number of steps that were run, and what was
+skipped in them since a tool is missing; with `--strict` a step that skips something fails."""
+import os
 import subprocess
 import sys
 from collections.abc import Sequence
 from dataclasses import dataclass
 
-from gate import machine
+from gate import TOP, machine
 from gate.built import Built
 from gate.children import Limit
+from gate.minutes import Minutes, table, wrong_bodies
 from gate.words import reader
 
 MINUTE = 60
@@ -77,8 +80,16 @@ STEPS = (
 )
 
 
-def ran(step: Step) -> tuple[str, str]:
-    """Runs a step, whose lines are printed as they come: its last line, and why it failed."""
+def ran(step: Step, minutes: Minutes) -> tuple[str, str]:
+    """Runs a step, whose lines are printed as they come: its last line, and why it failed. What the
+    prover takes is read beside the step that builds."""
+    if step.check != BUILDS:
+        return followed(step)
+    with minutes:
+        return followed(step)
+
+
+def followed(step: Step) -> tuple[str, str]:
     child = subprocess.Popen(step.command, stdout=subprocess.PIPE, text=True, errors="replace")
     last = ""
     with Limit(child, step.minutes * MINUTE) as limit:
@@ -89,11 +100,13 @@ def ran(step: Step) -> tuple[str, str]:
     return last, limit.fault or (f"status {status}" if status else "")
 
 
-def judged(step: Step, built: Built | None, is_strict: bool) -> tuple[list[str], str]:
+def judged(
+    step: Step, built: Built | None, minutes: Minutes, is_strict: bool
+) -> tuple[list[str], str]:
     """What a step has skipped, and why it failed. Behind `rt ci` it has to find what that built."""
     if built and step.check != BUILDS and (wrong := built.faults()):
         return [], "; ".join(wrong)
-    last, fault = ran(step)
+    last, fault = ran(step, minutes)
     missed = machine.skipped(last)
     if built and step.check == BUILDS and not fault:
         fault = "; ".join(built.note())
@@ -102,14 +115,14 @@ def judged(step: Step, built: Built | None, is_strict: bool) -> tuple[list[str],
     return missed, fault
 
 
-def run_all(steps: Sequence[Step], is_strict: bool) -> tuple[str, int]:
+def run_all(steps: Sequence[Step], minutes: Minutes, is_strict: bool) -> tuple[str, int]:
     """The last line and the status of these steps, one after the other."""
     skipped: dict[str, None] = {}
     built: Built | None = None
     for count, step in enumerate(steps, 1):
         if step.check == BUILDS:
             built = Built()
-        missed, fault = judged(step, built, is_strict)
+        missed, fault = judged(step, built, minutes, is_strict)
         skipped.update(dict.fromkeys(missed))
         if fault:
             return f"gate: step {count} of {len(steps)}, {step.name}: {fault}", 1
@@ -121,6 +134,9 @@ def main(words: Sequence[str]) -> int:
     reader_of = reader(__name__, __doc__)
     reader_of.add_argument("--strict", action="store_true", help="fail where a tool is missing")
     given = reader_of.parse_args(words)
-    line, status = run_all(STEPS, given.strict)
+    minutes = Minutes(os.getpid())
+    line, status = run_all(STEPS, minutes, given.strict)
+    if spent := minutes.spent():
+        print(table(spent, wrong_bodies(TOP)))
     print(line)
     return status

@@ -2,6 +2,7 @@
 programs are started."""
 import contextlib
 import io
+import os
 import sys
 import unittest
 from collections.abc import Sequence
@@ -11,6 +12,7 @@ from unittest import mock
 from gate import children, run
 from gate.__main__ import checks
 from gate.machine import Machine, skipped
+from gate.minutes import Minutes
 from gate.run import STEPS, Step, run_all
 
 
@@ -25,7 +27,7 @@ class Python(Step):
 def ended(steps: Sequence[Step], is_strict: bool = False) -> tuple[str, int]:
     """How these steps end; what they print is not shown."""
     with contextlib.redirect_stdout(io.StringIO()):
-        return run_all(steps, is_strict)
+        return run_all(steps, Minutes(os.getpid()), is_strict)
 
 
 WELL, NODE = Python("print('a: 3 wrong of 3')"), Python("print('b: 1; skipped: node, zsh')")
