@@ -2,12 +2,14 @@
 come first, in seconds; then every proof, wrong body and test (`rt ci`); then what is tried over the
 programs that this has built, and over no others.
 
-It stops at the first step that fails. Before its last line it prints the processor minutes that the
-prover took for each crate. The last line has the number of steps that were run, and what was
-skipped in them since a tool is missing; with `--strict` a step that skips something fails."""
+It stops at the first step that fails. Behind each step it prints the seconds that it took, and
+before its last line the processor minutes that the prover took for each crate. The last line has
+the number of steps that were run, and what was skipped in them since a tool is missing; with
+`--strict` a step that skips something fails."""
 import os
 import subprocess
 import sys
+import time
 from collections.abc import Sequence
 from dataclasses import dataclass
 
@@ -90,6 +92,8 @@ def ran(step: Step, minutes: Minutes) -> tuple[str, str]:
 
 
 def followed(step: Step) -> tuple[str, str]:
+    """The same, with the seconds that the step took, which are printed behind its lines."""
+    begun = time.monotonic()
     child = subprocess.Popen(step.command, stdout=subprocess.PIPE, text=True, errors="replace")
     last = ""
     with Limit(child, step.minutes * MINUTE) as limit:
@@ -97,6 +101,7 @@ def followed(step: Step) -> tuple[str, str]:
             print(line, end="", flush=True)
             last = line.rstrip("\n") or last
         status = child.wait()
+    print(f"gate: {step.name}: {time.monotonic() - begun:.0f} s", flush=True)
     return last, limit.fault or (f"status {status}" if status else "")
 
 

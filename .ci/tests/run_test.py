@@ -37,6 +37,15 @@ class Runs(unittest.TestCase):
     def test_all_well(self) -> None:
         self.assertEqual(ended([WELL, WELL]), ("gate: 2 steps, 0 failed", 0))
 
+    def test_what_is_printed(self) -> None:
+        with contextlib.redirect_stdout(io.StringIO()) as out:
+            run_all([Python("print('a: 1')"), Python("import time; time.sleep(1)")],
+                    Minutes(os.getpid()), is_strict=False)
+        first, second, third = out.getvalue().splitlines()
+        self.assertEqual(first, "a: 1")
+        self.assertRegex(second, r"^gate: print\('a: 1'\): [01] s$")
+        self.assertRegex(third, r"^gate: import time.*: [1-9]\d* s$")
+
     def test_what_is_skipped(self) -> None:
         line = "gate: 3 steps, 0 failed; skipped: node, zsh"
         self.assertEqual(ended([WELL, NODE, WELL]), (line, 0))
