@@ -1,4 +1,4 @@
-use packet_view::packet_lines;
+use packet_view::{packet_lines, whole_packet_lines};
 use std::test::Fail;
 use step_line::{StepArgs, StepCommand, TurnFault};
 
@@ -130,5 +130,75 @@ fn text_that_is_no_hexadecimal_is_refused(rt: HostRuntime) -> Result<(), Fail> {
     let command = StepCommand::from_texts(alloc, texts("100", &[]))?.ok_or("a turn")?;
     let refused = packet_lines(alloc, &command, b"0g");
     assert!(&rt; matches!(refused, Err(TurnFault::PacketText)));
+    Ok(())
+}
+
+/// The right packet with its headers on the wire, from a host with an address of IPv6.
+const WHOLE: &str = "0000000111150000010300000001ff00000001100001ff00000001110a000064\
+    20010db8000000000000000000000001000020000000b39600000064003f00020000\
+    110e4c1d3dad003f00000001a1a2a3a4a5a6";
+
+/// Its view begins with the fields in front of the path header.
+const WHOLE_FRONT: &str = "00000001 version 0, traffic class 0, flow 1\n\
+     11 next header 17\n\
+     15 headers of 84 bytes\n\
+     0000 payload of 0 bytes\n\
+     01 path of type 1\n\
+     03 destination host of type 0, 4 bytes; source host of type 0, 16 bytes\n\
+     0000 reserved\n\
+     0001ff0000000110 destination 1-ff00:0:110\n\
+     0001ff0000000111 source 1-ff00:0:111\n\
+     0a000064 destination host 10.0.0.100\n\
+     20010db8000000000000000000000001 source host 2001:db8::1\n\
+     00 at info field 0, hop field 0\n\
+     002000 segments of 2, 0 and 0 hop fields\n";
+
+/// The check of all headers, and the first of the router.
+const WHOLE_CHECKS: &str = "\na1a2a3a4a5a6 hop 1 authenticator\n\
+     0 headers: a whole packet of 84 bytes: ok\n\
+     1 header: a packet of 52 bytes: ok\n";
+
+/// The line of the turn: the packet at its second hop.
+const WHOLE_TURNED: &str = "\n13 link: up: ok\n\
+     link 2 0000000111150000010300000001ff00000001100001ff00000001110a000064\
+     20010db8000000000000000000000001010020000000b39600000064003f00020000\
+     110e4c1d3dad003f00000001a1a2a3a4a5a6";
+
+#[test]
+fn a_whole_packet_is_shown_with_all_its_headers(rt: HostRuntime) -> Result<(), Fail> {
+    let alloc = rt.alloc();
+    let own = ["2,parent,0,up"];
+    let command = StepCommand::from_texts(alloc, texts("100", &own))?.ok_or("a turn")?;
+    let lines = whole_packet_lines(alloc, &command, WHOLE.as_bytes())?;
+    assert!(&rt;
+        lines.as_str().starts_with(WHOLE_FRONT),
+        "{}",
+        lines.as_str()
+    );
+    assert!(&rt; lines.as_str().contains(WHOLE_CHECKS), "{}", lines.as_str());
+    assert!(&rt;
+        lines.as_str().ends_with(WHOLE_TURNED),
+        "{}",
+        lines.as_str()
+    );
+    Ok(())
+}
+
+/// A whole packet of another version: its common header, and one line for the rest.
+#[test]
+fn no_fields_are_shown_behind_a_common_header_that_is_refused(rt: HostRuntime) -> Result<(), Fail> {
+    let alloc = rt.alloc();
+    let command = StepCommand::from_texts(alloc, texts("100", &[]))?.ok_or("a turn")?;
+    let lines = whole_packet_lines(alloc, &command, b"100000011115000001030000ab")?;
+    let end = "\n0000 reserved\n\
+        ab no whole packet\n\
+        0 headers: a whole packet of 13 bytes: refused 161 BadVersion\n\
+        refused 161 BadVersion";
+    assert!(&rt;
+        lines.as_str().starts_with("10000001 version 1, "),
+        "{}",
+        lines.as_str()
+    );
+    assert!(&rt; lines.as_str().ends_with(end), "{}", lines.as_str());
     Ok(())
 }

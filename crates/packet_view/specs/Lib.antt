@@ -2,4 +2,6 @@ pub mod Fields
 pub mod Sides
 pub mod Checks
 pub mod Lines
+pub mod Host
+pub mod Whole
 pub mod inner

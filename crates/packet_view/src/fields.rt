@@ -3,7 +3,7 @@
 ghost use Rattle.std.specs.Prelude.{◌≡◌, ◌+◌, ◌<◌, ◌≤◌, ◌++◌, length, codes, IfOk, OnOk};
 ghost use Rattle.std.specs.String.{string_bytes};
 ghost use Rattle.path_header.specs.Value.{header_len};
-ghost use Rattle.packet_view.specs.Fields.{address_text, behind_text, field_text, fields_text, flag_of, header_text, hop_field_text, hop_field_text_at, hop_fields_text, info_field_text, info_field_text_at, info_fields_text, last_live, mac_text, meta_text, number_text, payload_text};
+ghost use Rattle.packet_view.specs.Fields.{address_text, addresses_text, behind_text, field_text, fields_text, flag_of, header_text, hop_field_text, hop_field_text_at, hop_fields_text, info_field_text, info_field_text_at, info_fields_text, last_live, mac_text, meta_text, number_text, payload_text};
 ghost use Rattle.packet_view.specs.inner.Part.{parts_text};
 ghost use Rattle.router_step.specs.Packet.{header_in};
 
@@ -19,7 +19,7 @@ const FIELDS_START: usize = ADDRESSES_LEN + META_LEN;
 
 /// Adds the line of `len` bytes of the packet from this place on, with their meaning.
 #[tactic(auto, unfolding(crate::specs::Fields::field_text))]
-fn add_field(
+pub(crate) fn add_field(
     alloc: Global,
     text: &mut String,
     packet: &[u8],
@@ -55,6 +55,22 @@ fn add_address(
 {
     let says = [Part::Words(name), Part::Words(" "), Part::Address(address)];
     add_field(alloc, text, packet, start, 8, &says)
+}
+
+/// Adds the lines of both addresses.
+#[tactic(auto, unfolding(crate::specs::Fields::addresses_text))]
+pub(crate) fn add_addresses(
+    alloc: Global,
+    text: &mut String,
+    packet: &[u8],
+) -> Result<(), AllocError>
+    requires { 16 ≤ length packet.now }
+    ensures { OnOk result (string_bytes text.new
+        ≡ string_bytes text.old ++ addresses_text packet.now) }
+{
+    let destination = destination_in(packet);
+    add_address(alloc, text, packet, 0, "destination", destination)?;
+    add_address(alloc, text, packet, 8, "source", source_in(packet))
 }
 
 /// Adds the lines of the meta field.
@@ -300,7 +316,7 @@ fn add_header(
 
 /// Adds the lines after the addresses: of a path header and a payload.
 #[tactic(auto, unfolding(crate::specs::Fields::behind_text))]
-fn add_behind(alloc: Global, text: &mut String, packet: &[u8]) -> Result<(), AllocError>
+pub(crate) fn add_behind(alloc: Global, text: &mut String, packet: &[u8]) -> Result<(), AllocError>
     requires { 16 ≤ length packet.now }
     ensures { OnOk result (string_bytes text.new
         ≡ string_bytes text.old ++ behind_text packet.now (header_in packet.now)) }
@@ -317,7 +333,7 @@ fn add_behind(alloc: Global, text: &mut String, packet: &[u8]) -> Result<(), All
 /// The fields of a packet, each on a line with its bytes in hexadecimal: addresses, meta field,
 /// info fields, hop fields and payload. If the packet has no addresses or no path header, the lines
 /// say so. `AllocError` if memory runs out.
-#[tactic(auto, unfolding(crate::specs::Fields::addresses_text, crate::specs::Fields::fields_text))]
+#[tactic(auto, unfolding(crate::specs::Fields::fields_text))]
 pub fn fields_text(alloc: Global, packet: &[u8]) -> Result<String, AllocError>
     ensures { IfOk result (λ text. string_bytes text ≡ fields_text packet.now) }
 {
@@ -327,15 +343,7 @@ pub fn fields_text(alloc: Global, packet: &[u8]) -> Result<String, AllocError>
         add_field(alloc, &mut text, packet, 0, packet.len(), &says)?;
         return Ok(text);
     }
-    add_address(
-        alloc,
-        &mut text,
-        packet,
-        0,
-        "destination",
-        destination_in(packet),
-    )?;
-    add_address(alloc, &mut text, packet, 8, "source", source_in(packet))?;
+    add_addresses(alloc, &mut text, packet)?;
     add_behind(alloc, &mut text, packet)?;
     Ok(text)
 }

@@ -1,6 +1,8 @@
 //! A packet at a router as text: each of its fields, each check of the router with both its sides,
 //! and the result of the step.
 //!
+//! A packet is a frame, as a router's step takes it, or a whole packet, as it is on the wire.
+//!
 //! The checks are those of [`router_step::step`], up to the first that fails, and the last line is
 //! the one that `scionet step` prints. The text has about 20 bytes for each byte of the packet, and
 //! one or two kilobytes more; each byte is read a few times.
@@ -9,11 +11,14 @@
 mod check;
 mod checks;
 mod fields;
+mod host;
 pub mod laws;
 mod lines;
 mod part;
 mod sides;
 mod situation;
+mod whole;
 
 pub use fields::fields_text;
 pub use lines::packet_lines;
+pub use whole::{packet_fault_line, whole_packet_lines};

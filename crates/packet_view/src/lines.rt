@@ -42,7 +42,7 @@ fn checks_text(alloc: Global, checks: &[Check]) -> Result<String, AllocError>
 }
 
 /// Adds the checks of the turn's router on the packet, up to the first that fails.
-fn add_checks(
+pub(crate) fn add_checks(
     alloc: Global,
     text: &mut String,
     command: &StepCommand,

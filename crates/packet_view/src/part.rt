@@ -5,11 +5,14 @@ ghost use Rattle.std.specs.Prelude.{◌≡◌, ◌++◌, OnOk};
 ghost use Rattle.std.specs.String.{string_bytes};
 ghost use Rattle.hex.specs.Hex.{encode_lower};
 ghost use Rattle.packet_view.specs.Fields.{lens_text, indices_text};
+ghost use Rattle.packet_view.specs.Host.{host_text};
 ghost use Rattle.packet_view.specs.inner.Part.{part_text, parts_text};
 ghost use Rattle.packet_view.specs.declared.part.Part.TheVariants.{Lens, Place};
 
+use crate::host::{add_host, add_host_kind};
 use isd_as::{IfId, IsdAs};
 use path_header::{Header, SegLens};
+use scion_packet::HostAddress;
 use std::alloc::{AllocError, Global};
 
 /// A part of a line.
@@ -33,6 +36,10 @@ pub(crate) enum Part<'a> {
     Interface(IfId),
     /// A router of an AS.
     Router(u8),
+    /// The address of a host.
+    Host(&'a HostAddress),
+    /// The type of a host's address, and the number of its bytes.
+    HostKind(u8, usize),
 }
 
 /// The place of the packet on its path.
@@ -91,6 +98,8 @@ fn add_part(alloc: Global, text: &mut String, part: &Part<'_>) -> Result<(), All
         Part::Lens(first, second, third) => add_lens(text, *first, *second, *third),
         Part::Interface(interface) => write!(text, "interface {interface}"),
         Part::Router(router) => write!(text, "router {router}"),
+        Part::Host(host) => add_host(alloc, text, host),
+        Part::HostKind(kind, len) => add_host_kind(text, *kind, *len),
     }
 }
 

@@ -1,6 +1,6 @@
 //! Reading a whole packet.
 
-ghost use Rattle.std.specs.Prelude.{◌≡◌, ◌<◌, ◌≤◌, length, slice_index, Ok, IfOk};
+ghost use Rattle.std.specs.Prelude.{◌≡◌, ◌<◌, ◌≤◌, length, slice_index, Ok, IfOk, OnOk};
 ghost use Rattle.scion_packet.specs.Value.{WholePacketValue};
 ghost use Rattle.scion_packet.specs.Spelling.{SpellsPacket};
 ghost use Rattle.scion_packet.specs.Layout.{path_place};
@@ -26,6 +26,8 @@ pub fn read(packet: &[u8]) -> Result<WholePacket<'_>, PacketFault>
     ensures only { (v : WholePacketValue) → SpellsPacket packet.now v → result ≡ Ok v }
     // The exact result, with its refusal.
     ensures exact { result ≡ whole_packet_at packet.now }
+    // The path header begins within the bytes.
+    ensures place { OnOk result (path_place packet.now ≤ length packet.now) }
 {
     let (header, end) = match read_headers(packet) {
         Ok(headers) => headers,

@@ -13,5 +13,5 @@ mod texts;
 pub use command::StepCommand;
 pub use fault::TurnFault;
 pub use fields::{bytes, number};
-pub use line::refusal_line;
+pub use line::{outcome_line, refusal_line};
 pub use texts::StepArgs;

@@ -7,12 +7,9 @@ ghost use Rattle.step_line.specs.Line.{outcome_line, refusal_line};
 use router_step::{Outcome, Refusal};
 use std::alloc::{AllocError, Global};
 
-/// The line of a packet that was not refused.
-pub(crate) fn outcome_line(
-    alloc: Global,
-    outcome: Outcome,
-    packet: &[u8],
-) -> Result<String, AllocError>
+/// The line, without its end, of a packet that was not refused, with its bytes after the step.
+/// `AllocError` if memory runs out.
+pub fn outcome_line(alloc: Global, outcome: Outcome, packet: &[u8]) -> Result<String, AllocError>
     ensures { IfOk result (λ line. string_bytes line ≡ outcome_line outcome packet.now) }
 {
     let digits = hex::encode(alloc, packet)?;
@@ -23,7 +20,7 @@ pub(crate) fn outcome_line(
     }
 }
 
-/// The line of a packet that was refused, without its end.
+/// The line of a packet that was refused, without its end. `AllocError` if memory runs out.
 pub fn refusal_line(alloc: Global, refusal: Refusal) -> Result<String, AllocError>
     ensures { IfOk result (λ line. string_bytes line ≡ refusal_line refusal) }
 {

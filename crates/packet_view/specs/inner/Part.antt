@@ -4,8 +4,9 @@ use Rattle.std.specs.Fmt.{decimal}
 use Rattle.hex.specs.Hex.{encode_lower}
 use Rattle.isd_as.specs.Address.{canonical}
 use Rattle.packet_view.specs.Fields.{lens_text}
+use Rattle.packet_view.specs.Host.{host_kind_text, host_text}
 use Rattle.packet_view.specs.declared.part.Part.{Part}
-use Rattle.packet_view.specs.declared.part.Part.TheVariants.{Words, Number, Address, Mac, MacBefore, Place, Lens, Interface, Router}
+use Rattle.packet_view.specs.declared.part.Part.TheVariants.{Words, Number, Address, Mac, MacBefore, Place, Lens, Interface, Router, Host, HostKind}
 
 -- what a part of a line says
 abbrev pub part_text : Part → List ℕ
@@ -20,6 +21,8 @@ part_text (Lens first second third) =
     lens_text (record { first = first; second = second; third = third })
 part_text (Interface interface) = codes "interface " ++ decimal interface
 part_text (Router router) = codes "router " ++ decimal router
+part_text (Host host) = host_text host.now
+part_text (HostKind kind len) = host_kind_text kind len
 
 -- parts one after the other
 abbrev pub parts_text : List Part → List ℕ
