@@ -415,7 +415,18 @@ def option_list(size: int) -> str:
 # Packets of `step`.
 
 
+# The addresses of a packet of two hops, and its path header.
+ADDRESSES = "0001ff0000000110" "0001ff0000000111"
+HEADER = "00002000" "0000b39600000064" "003f00020000110e4c1d3dad" "003f00000001a1a2a3a4a5a6"
+
+
 def packet(size: int) -> str:
     """A packet with a payload of so many bytes."""
-    header = "00002000" "0000b39600000064" "003f00020000110e4c1d3dad" "003f00000001a1a2a3a4a5a6"
-    return "0001ff0000000110" "0001ff0000000111" + header + "00" * size
+    return ADDRESSES + HEADER + "00" * size
+
+
+def whole_packet(size: int) -> str:
+    """A whole packet with a payload of so many bytes, between hosts with addresses of IPv4. If
+    they are more than 65,535, its header says another number."""
+    common = "00000001" "fd12" + f"{size % 65_536:04x}" + "01000000"
+    return common + ADDRESSES + "0a000064" * 2 + HEADER + "00" * size

@@ -86,6 +86,12 @@ PACKETS = [
          (8_000_000, 16_000_000), "link 2 ", Bound(LINEAR, 2, 150), times=3),
     Work("a packet of 'packet'", view("packet", *TURN), families.packet, (4_000_000, 8_000_000),
          "link 2 ", Bound(LINEAR, 1.6, 125), times=2),
+    Work("a packet of 'packet --whole'", view("packet", "--whole", *TURN), families.whole_packet,
+         (32_000, 64_000), "link 2 ", Bound(LINEAR, 0.6, 10), times=20),
+    Work("a whole packet that is refused", view("packet", "--whole", *TURN), families.whole_packet,
+         (4_000_000, 8_000_000), "refused 164 BadPayloadLength", Bound(LINEAR, 1.6, 125), times=2),
+    Work("a packet of 'wrap'", view("wrap", "--packet", "0"), families.packets, (10_000, 20_000),
+         "0a0000640a000064", Bound(LINEAR, 1, 15)),
 ]
 
 NETWORKS = [

@@ -3,3 +3,4 @@ pub mod Reached
 pub mod Network
 pub mod Path
 pub mod Report
+pub mod Wrapped

@@ -1,6 +1,7 @@
 //! `scionet_view` shows a packet as a router sees it, field by field and check by check; a network
 //! as a picture; the path of a packet in it; the paths between its ASes and the links that they
-//! need; the events by which a topology is beaconed; and why lines are refused.
+//! need; the events by which a topology is beaconed; a packet as it is on the wire; and why lines
+//! are refused.
 //!
 //! The packet, the lines of a network, the faults and the exit status are those of `scionet`. The
 //! status is 0 if something was shown, 2 if the words are refused or ask for help, and 1 after any
@@ -12,17 +13,19 @@ mod beacons;
 mod explain;
 mod network;
 mod network_after;
+mod packet_words;
 mod path;
 mod report;
 mod report_words;
 mod words;
+mod wrapped;
 
 use answer::answer_path;
 use beacons::beacons;
 use commands::{CommandFault, Status, end, words_behind};
 use explain::explanation;
 use network::network_picture;
-use packet_view::packet_lines;
+use packet_view::{packet_lines, whole_packet_lines};
 use path::packet_path;
 use report::network_report;
 use std::alloc::Global;
@@ -30,6 +33,7 @@ use std::process::ExitCode;
 use step_line::StepCommand;
 use streams::{MAX_INPUT_LEN, Reader, Sink, Source, Writer, read_all, write_all};
 use words::{Subject, View, read_view};
+use wrapped::wrapped_packet;
 
 /// The lines about the packet that the source gives in hexadecimal.
 fn packet_text<S: Source>(
@@ -39,6 +43,18 @@ fn packet_text<S: Source>(
 ) -> Result<String, CommandFault> {
     let packet = read_all(alloc, source, MAX_INPUT_LEN as u64)?;
     let mut lines = packet_lines(alloc, command, &packet)?;
+    lines.push_str("\n")?;
+    Ok(lines)
+}
+
+/// The lines about the whole packet that the source gives in hexadecimal.
+fn whole_packet_text<S: Source>(
+    alloc: Global,
+    command: &StepCommand,
+    source: &mut S,
+) -> Result<String, CommandFault> {
+    let packet = read_all(alloc, source, MAX_INPUT_LEN as u64)?;
+    let mut lines = whole_packet_lines(alloc, command, &packet)?;
     lines.push_str("\n")?;
     Ok(lines)
 }
@@ -54,6 +70,8 @@ fn show_view<S: Source, K: Sink>(
     let text = match view {
         View::Explain => return Ok(explanation(alloc, source, sink)?),
         View::Packet(command) => packet_text(alloc, command, source)?,
+        View::WholePacket(command) => whole_packet_text(alloc, command, source)?,
+        View::Wrap(info, number) => wrapped_packet(alloc, source, info, *number)?,
         View::Network(subject) => network_picture(alloc, source, *subject)?,
         View::Report(words) => return Ok(network_report(alloc, source, words, sink)?),
         View::Beacons(options) => beacons(alloc, source, options)?,

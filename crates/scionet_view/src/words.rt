@@ -1,11 +1,13 @@
 //! The words of the command line.
 
+use crate::packet_words::{info_in, wrap_command};
 use crate::report_words::{ReportWords, report_command, report_in};
 use beacon_lines::{BeaconingOptions, MAX_PER_PAIR};
 use clap::builder::ValueParser;
-use clap::{Arg, ArgGroup, ArgMatches, Command};
+use clap::{Arg, ArgAction, ArgGroup, ArgMatches, Command};
 use commands::{VERSION, WordsFault, explain_refusal, turn, with_example, with_turn};
 use path_segment::MAX_SEGMENT_LEN;
+use scion_packet::PacketInfo;
 use std::alloc::{AllocError, Global};
 use step_line::{StepCommand, number};
 
@@ -14,6 +16,9 @@ static PACKET_HELP: &str = "\
 The words and the packet are those of 'scionet step'. Each field of the packet is on a line, its \
 bytes in hexadecimal and what they say; then each check that the router makes, with both sides, up \
 to the first that fails; and the last line is the one that 'scionet step' prints.
+
+With --whole the packet is as it is on the wire, with the common header and the address header of \
+SCION, and so it is printed after the turn.
 
 Example: at second 100, a packet of a host leaves 1-ff00:0:111 over interface 2, to a parent
   printf 0001ff00000001100001ff0000000111000020000000b39600000064003f00020000\
@@ -107,6 +112,11 @@ pub(crate) enum Subject {
 pub(crate) enum View {
     /// `packet`: the packet on standard input, at the router whose turn this is.
     Packet(StepCommand),
+    /// `packet --whole`: the same of a whole packet.
+    WholePacket(StepCommand),
+    /// `wrap`: a packet of the network after the lines on standard input, as a whole packet that
+    /// says this besides.
+    Wrap(PacketInfo, u32),
     /// `network`: the network after the lines on standard input, and what is marked in it.
     Network(Option<Subject>),
     /// `path`: the path of a packet of that network, or of an answer.
@@ -124,11 +134,15 @@ fn packet_command<'a>(alloc: Global) -> Result<Command<'a>, AllocError> {
     let command = Command::new(alloc, "packet")
         .about("Shows a packet field by field, and what a router checks of it")
         .after_long_help(PACKET_HELP);
-    with_turn(alloc, command)
+    let whole = Arg::new(alloc, "whole")
+        .long("whole")
+        .action(ArgAction::SetTrue)
+        .help("The packet is a whole one, with its common header and its address header");
+    with_turn(alloc, command)?.arg(whole)
 }
 
 /// The option with the number of something that the lines have made.
-fn place_option<'a>(alloc: Global, name: &'a str, help: &'a str) -> Arg<'a> {
+pub(crate) fn place_option<'a>(alloc: Global, name: &'a str, help: &'a str) -> Arg<'a> {
     Arg::new(alloc, name)
         .long(name)
         .value_name("N")
@@ -174,7 +188,7 @@ fn network_command<'a>(
 }
 
 /// An option with a number in a range, which is `default` if it is not given.
-fn range_option<'a>(
+pub(crate) fn range_option<'a>(
     alloc: Global,
     name: &'a str,
     range: (i64, i64),
@@ -217,7 +231,7 @@ fn explain_command<'a>(alloc: Global) -> Result<Command<'a>, AllocError> {
 
 /// The commands of the program.
 fn commands<'a>(alloc: Global) -> Result<Vec<Command<'a>>, AllocError> {
-    let mut commands = Vec::with_capacity(alloc, 6)?;
+    let mut commands = Vec::with_capacity(alloc, 7)?;
     commands.push_reserved(packet_command(alloc)?);
     let about = "Draws the network that the lines on standard input lead to";
     commands.push_reserved(network_command(alloc, "network", about, NETWORK_HELP, false)?);
@@ -225,6 +239,7 @@ fn commands<'a>(alloc: Global) -> Result<Vec<Command<'a>>, AllocError> {
     commands.push_reserved(network_command(alloc, "path", about, PATH_HELP, true)?);
     commands.push_reserved(report_command(alloc)?);
     commands.push_reserved(beacons_command(alloc)?);
+    commands.push_reserved(wrap_command(alloc)?);
     commands.push_reserved(explain_command(alloc)?);
     Ok(commands)
 }
@@ -276,6 +291,28 @@ fn beacons(matches: &ArgMatches<'_>) -> Option<View> {
     }))
 }
 
+/// The view of the matches of `packet`, if they give a turn.
+fn packet(alloc: Global, matches: &ArgMatches<'_>) -> Result<Option<View>, AllocError> {
+    let Some(command) = turn(alloc, matches)? else {
+        return Ok(None);
+    };
+    if matches.get_flag("whole") {
+        return Ok(Some(View::WholePacket(command)));
+    }
+    Ok(Some(View::Packet(command)))
+}
+
+/// The view of the matches of `wrap`, if their numbers can be read.
+fn wrap(alloc: Global, matches: &ArgMatches<'_>) -> Result<Option<View>, WordsFault> {
+    let Some(number) = number_in(matches, "packet") else {
+        return Ok(None);
+    };
+    match info_in(alloc, matches)? {
+        Some(info) => Ok(Some(View::Wrap(info, number))),
+        None => Ok(None),
+    }
+}
+
 /// The view of the matches, if there is one.
 fn view_in(alloc: Global, matches: &ArgMatches<'_>) -> Result<Option<View>, WordsFault> {
     let Some((name, given)) = matches.subcommand() else {
@@ -296,18 +333,19 @@ fn view_in(alloc: Global, matches: &ArgMatches<'_>) -> Result<Option<View>, Word
     if name == "explain" {
         return Ok(Some(View::Explain));
     }
-    match turn(alloc, given)? {
-        Some(command) => Ok(Some(View::Packet(command))),
-        None => Ok(None),
+    if name == "wrap" {
+        return wrap(alloc, given);
     }
+    Ok(packet(alloc, given)?)
 }
 
 /// The view of the words after the program's name.
 ///
 /// [`WordsFault::Usage`] with the text of `clap`, if it refuses the words or they ask for help. The
 /// same fault with the text `scionet_view: usage`, if the words give no turn or a number can't be
-/// read, and with a refusal's number, name and sentence, if an address or a policy of `report` is
-/// refused. [`WordsFault::Memory`] if memory runs out.
+/// read; with a refusal's number, name and sentence, if an address or a policy of `report` is
+/// refused; and with what was found and wanted, if a host of `wrap` is no address.
+/// [`WordsFault::Memory`] if memory runs out.
 pub(crate) fn read_view<'a>(alloc: Global, words: &'a [&'a str]) -> Result<View, WordsFault> {
     let matches = match program(alloc)?.try_get_matches_from(words) {
         Ok(matches) => matches,
