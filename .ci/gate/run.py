@@ -72,6 +72,7 @@ STEPS = (
     Step("topo"),
     Step("report"),
     Step("explain"),
+    Step("captures"),
     Step("playground"),
     Step("bindings", minutes=60),
     Step("documents"),

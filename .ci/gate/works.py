@@ -92,6 +92,9 @@ PACKETS = [
          (4_000_000, 8_000_000), "refused 164 BadPayloadLength", Bound(LINEAR, 1.6, 125), times=2),
     Work("a packet of 'wrap'", view("wrap", "--packet", "0"), families.packets, (10_000, 20_000),
          "0a0000640a000064", Bound(LINEAR, 1, 15)),
+    # The file ends with the payload of the last datagram.
+    Work("a capture", view("capture"), families.packets, (10_000, 20_000), "\0" * 8,
+         Bound(LINEAR, 1.2, 60)),
 ]
 
 NETWORKS = [

@@ -1,4 +1,4 @@
--- The output of `scionet_view wrap`.
+-- The output of `scionet_view wrap`, and that of `scionet_view capture`.
 use Rattle.std.specs.Prelude.{ℕ, codes, List, ◌++◌, Option, Some, None, slice_get, Result, Ok, Err}
 use Rattle.hex.specs.Hex.{encode_lower}
 use Rattle.network_core.specs.declared.fault.EventFault.TheVariants.{NoPacket}

@@ -1,7 +1,7 @@
 //! `scionet_view` shows a packet as a router sees it, field by field and check by check; a network
 //! as a picture; the path of a packet in it; the paths between its ASes and the links that they
-//! need; the events by which a topology is beaconed; a packet as it is on the wire; and why lines
-//! are refused.
+//! need; the events by which a topology is beaconed; a packet as it is on the wire, and a run as a
+//! capture; and why lines are refused.
 //!
 //! The packet, the lines of a network, the faults and the exit status are those of `scionet`. The
 //! status is 0 if something was shown, 2 if the words are refused or ask for help, and 1 after any
@@ -28,12 +28,13 @@ use network::network_picture;
 use packet_view::{packet_lines, whole_packet_lines};
 use path::packet_path;
 use report::network_report;
+use scion_packet::PacketInfo;
 use std::alloc::Global;
 use std::process::ExitCode;
 use step_line::StepCommand;
 use streams::{MAX_INPUT_LEN, Reader, Sink, Source, Writer, read_all, write_all};
 use words::{Subject, View, read_view};
-use wrapped::wrapped_packet;
+use wrapped::{captured_run, wrapped_packet};
 
 /// The lines about the packet that the source gives in hexadecimal.
 fn packet_text<S: Source>(
@@ -59,8 +60,20 @@ fn whole_packet_text<S: Source>(
     Ok(lines)
 }
 
+/// Writes the capture of the run of the lines that the source has.
+fn show_capture<S: Source, K: Sink>(
+    alloc: Global,
+    info: &PacketInfo,
+    source: &mut S,
+    sink: &mut K,
+) -> Result<(), CommandFault> {
+    let file = captured_run(alloc, source, info)?;
+    write_all(sink, &file)?;
+    Ok(())
+}
+
 /// Shows what the view wants of the bytes of the source: an explanation and a report line by line,
-/// and anything else at once.
+/// a capture as a file, and anything else as one text.
 fn show_view<S: Source, K: Sink>(
     alloc: Global,
     view: &View,
@@ -69,6 +82,7 @@ fn show_view<S: Source, K: Sink>(
 ) -> Result<(), CommandFault> {
     let text = match view {
         View::Explain => return Ok(explanation(alloc, source, sink)?),
+        View::Capture(info) => return show_capture(alloc, info, source, sink),
         View::Packet(command) => packet_text(alloc, command, source)?,
         View::WholePacket(command) => whole_packet_text(alloc, command, source)?,
         View::Wrap(info, number) => wrapped_packet(alloc, source, info, *number)?,

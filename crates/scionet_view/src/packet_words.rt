@@ -1,4 +1,4 @@
-//! The words of `wrap`: what a whole packet says besides its path and payload.
+//! The words of `wrap` and `capture`: what whole packets say besides their path and payload.
 
 use crate::words::{place_option, range_option};
 use clap::{Arg, ArgMatches, Command};
@@ -8,7 +8,7 @@ use std::alloc::{AllocError, Global};
 use std::net::IpAddr;
 use step_line::number;
 
-/// The flow and the traffic class of packets.
+/// The flow and the traffic class of all packets.
 const FLOW: u32 = 1;
 
 const TRAFFIC_CLASS: u8 = 0;
@@ -26,6 +26,24 @@ Example: a packet from an AS to its parent
 ",
     " |
   scionet_view wrap --packet 0 --source-host 10.0.0.7
+"
+);
+
+/// The end of the long help of `capture`.
+static CAPTURE_HELP: &str = with_example!(
+    "\
+Standard input has the lines of 'scionet run'. The output is a file of the format pcap: each \
+datagram that the packets would have on the wire, from a host to the first router, from router to \
+router, and to a host, at the second of the run. The AS in place N of the topology's list, from \
+0, has the network 10.H.L.0/24, where H is N / 256 and L the rest; its router R has the address \
+R + 1 there, and its hosts have 100. The payload of UDP, port 50000, is the whole packet as 'wrap' \
+prints it. A packet that a router refuses goes no further.
+
+Example: both datagrams of a packet from an AS to its parent
+  printf '%s\\n' \\
+",
+    " \\
+    '{\"do\":\"turn\",\"packet\":0}' | scionet_view capture > run.pcap
 "
 );
 
@@ -59,6 +77,14 @@ pub(crate) fn wrap_command<'a>(alloc: Global) -> Result<Command<'a>, AllocError>
     add_info_options(alloc, command)
 }
 
+/// The command `capture`.
+pub(crate) fn capture_command<'a>(alloc: Global) -> Result<Command<'a>, AllocError> {
+    let command = Command::new(alloc, "capture")
+        .about("Writes the packets of a run as a capture for Wireshark")
+        .after_long_help(CAPTURE_HELP);
+    add_info_options(alloc, command)
+}
+
 /// The fault of a text that is no address.
 fn bad_address(alloc: Global, name: &str, text: &str) -> Result<WordsFault, AllocError> {
     let said = format!(in alloc;
@@ -89,8 +115,8 @@ fn next_header_in(matches: &ArgMatches<'_>) -> Option<u8> {
     Some(next as u8)
 }
 
-/// What a packet says besides, as the matches of `wrap` have it; `None` if a number can't be read.
-/// The fault tells of the first address that is none.
+/// What packets say besides, as the matches of `wrap` or `capture` have it; `None` if a number
+/// can't be read. The fault tells of the first address that is none.
 pub(crate) fn info_in(
     alloc: Global,
     matches: &ArgMatches<'_>,

@@ -1,6 +1,6 @@
 //! The words of the command line.
 
-use crate::packet_words::{info_in, wrap_command};
+use crate::packet_words::{capture_command, info_in, wrap_command};
 use crate::report_words::{ReportWords, report_command, report_in};
 use beacon_lines::{BeaconingOptions, MAX_PER_PAIR};
 use clap::builder::ValueParser;
@@ -117,6 +117,8 @@ pub(crate) enum View {
     /// `wrap`: a packet of the network after the lines on standard input, as a whole packet that
     /// says this besides.
     Wrap(PacketInfo, u32),
+    /// `capture`: the capture of the run of these lines, whose packets say this besides.
+    Capture(PacketInfo),
     /// `network`: the network after the lines on standard input, and what is marked in it.
     Network(Option<Subject>),
     /// `path`: the path of a packet of that network, or of an answer.
@@ -231,7 +233,7 @@ fn explain_command<'a>(alloc: Global) -> Result<Command<'a>, AllocError> {
 
 /// The commands of the program.
 fn commands<'a>(alloc: Global) -> Result<Vec<Command<'a>>, AllocError> {
-    let mut commands = Vec::with_capacity(alloc, 7)?;
+    let mut commands = Vec::with_capacity(alloc, 8)?;
     commands.push_reserved(packet_command(alloc)?);
     let about = "Draws the network that the lines on standard input lead to";
     commands.push_reserved(network_command(alloc, "network", about, NETWORK_HELP, false)?);
@@ -240,6 +242,7 @@ fn commands<'a>(alloc: Global) -> Result<Vec<Command<'a>>, AllocError> {
     commands.push_reserved(report_command(alloc)?);
     commands.push_reserved(beacons_command(alloc)?);
     commands.push_reserved(wrap_command(alloc)?);
+    commands.push_reserved(capture_command(alloc)?);
     commands.push_reserved(explain_command(alloc)?);
     Ok(commands)
 }
@@ -336,6 +339,9 @@ fn view_in(alloc: Global, matches: &ArgMatches<'_>) -> Result<Option<View>, Word
     if name == "wrap" {
         return wrap(alloc, given);
     }
+    if name == "capture" {
+        return Ok(info_in(alloc, given)?.map(View::Capture));
+    }
     Ok(packet(alloc, given)?)
 }
 
@@ -344,7 +350,7 @@ fn view_in(alloc: Global, matches: &ArgMatches<'_>) -> Result<Option<View>, Word
 /// [`WordsFault::Usage`] with the text of `clap`, if it refuses the words or they ask for help. The
 /// same fault with the text `scionet_view: usage`, if the words give no turn or a number can't be
 /// read; with a refusal's number, name and sentence, if an address or a policy of `report` is
-/// refused; and with what was found and wanted, if a host of `wrap` is no address.
+/// refused; and with what was found and wanted, if a host of `wrap` or `capture` is no address.
 /// [`WordsFault::Memory`] if memory runs out.
 pub(crate) fn read_view<'a>(alloc: Global, words: &'a [&'a str]) -> Result<View, WordsFault> {
     let matches = match program(alloc)?.try_get_matches_from(words) {

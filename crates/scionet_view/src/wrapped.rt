@@ -1,20 +1,24 @@
 //! Packets of the network after some lines, as whole packets.
 
-ghost use Rattle.std.specs.Prelude.{◌≡◌, ◌||◌, IfOk, option_map};
+ghost use Rattle.std.specs.Prelude.{◌≡◌, ◌||◌, ℕ, List, IfOk, option_map};
+ghost use Rattle.std.specs.Io.KnownBytes.{Consumes};
 ghost use Rattle.std.specs.String.{string_bytes};
 ghost use Rattle.event_lines.specs.Run.{is_read_fault};
+ghost use Rattle.run_capture.specs.Lines.{IsCapture};
 ghost use Rattle.scionet_view.specs.Reached.{Shows};
 ghost use Rattle.scionet_view.specs.Wrapped.{wrapped_line, wrapped_text};
 
 use crate::network::fault_line;
 use crate::network_after::network_after;
+use commands::CommandFault;
 use event_lines::RunFault;
 use network_core::{EventFault, Packet};
 use packet_view::packet_fault_line;
 use refusal::OrMemory;
+use run_capture::capture;
 use scion_packet::PacketInfo;
 use std::alloc::{AllocError, Global};
-use streams::Source;
+use streams::{MAX_INPUT_LEN, Source, read_all};
 use wire_packets::wrap;
 
 /// The line about a packet: the whole packet in hexadecimal, or that there is none.
@@ -60,4 +64,18 @@ pub(crate) fn wrapped_packet<S: Source>(
         wrapped_text(alloc, info, net.packet(number as usize))
     };
     Ok(text?)
+}
+
+/// The capture of a run of the lines of a source, up to its end.
+pub(crate) fn captured_run<S: Source>(
+    alloc: Global,
+    source: &mut S,
+    info: &PacketInfo,
+) -> Result<Vec<u8>, CommandFault>
+    ensures { IfOk result (λ file. (bytes : List ℕ)
+        × (Consumes (S.left source.old) (S.left source.new) bytes
+        × IsCapture info.now bytes file.items)) }
+{
+    let input = read_all(alloc, source, MAX_INPUT_LEN as u64)?;
+    Ok(capture(alloc, info, &input)?)
 }
