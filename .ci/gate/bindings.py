@@ -34,6 +34,7 @@ SECONDS = 300
 STRICT = ("-O2", "-Wall", "-Wextra", "-Wpedantic", "-Werror")
 CXX = "c++"
 NODE = ["node", "--experimental-wasm-memory64"]
+VIEW = "crates/scionet_view/out/scionet_view"
 
 # Turns of routers on whole packets.
 PACKETS = "cases/packets/turns.tsv"
@@ -98,6 +99,10 @@ class Gate:
         source = os.path.join("examples", "udp", "router.c")
         build.link_program(compiler, build.ROUTER, source, program, ("-std=gnu11", *STRICT))
         words = [sys.executable, "-B", os.path.join("examples", "udp", "network.py"), program]
+        if os.path.exists(VIEW):
+            words.append(VIEW)
+        else:
+            print("bindings: scionet_view is not built: no capture is compared with the routers")
         self.run(f"routers by {name}", words, (TOP / "examples/pair.txt").read_bytes())
         for network in ("row", "pair"):
             given = (TOP / "examples" / f"{network}.txt").read_bytes()

@@ -2,9 +2,9 @@
 # SPDX-License-Identifier: Apache-2.0
 """Runs a network whose routers are processes, which send its packets as datagrams.
 
-    network.py PROGRAM < examples/row.txt
+    network.py ROUTER [VIEW] < examples/row.txt
 
-The program is `router.c`, built. The lines are those of `scionet run`: a topology, and then the
+The router is `router.c`, built. The lines are those of `scionet run`: a topology, and then the
 events that make segments, answers and packets. Here a hop's authenticator is that of
 `scion_hop_mac`, and an answer that of `scion_paths`. For `send` a host sends its payload in a
 datagram of UDP, in a whole packet; the host that gets it prints it, and answers by the same data
@@ -12,8 +12,12 @@ over the way back. Then the packet is sent with another last byte of its header,
 last hop's authenticator. Events behind `send` are left out: routers take their turns when a packet
 comes.
 
+With `scionet_view`, built, as VIEW, the datagrams of both packets are compared with those of the
+capture of the same run.
+
 It is an example of a host, and not proved. All sockets are on 127.0.0.1, and each process ends
 after some packets or seconds."""
+import argparse
 import itertools
 import json
 import os
@@ -34,6 +38,9 @@ PACKETS, SECONDS = 100, 20
 
 # The ports of the host that asks and of the one that answers.
 ASKS, ANSWERS = 40_000, 7
+
+# The head of a capture, that of each of its frames, and the headers in front of a whole packet.
+FILE_HEAD, FRAME_HEAD, HEADERS = 24, 16, 42
 
 # The kinds of a link's interfaces: what the AS at the other end is to the AS at `a`, and at `b`.
 KINDS = {"core": (Kind.CORE, Kind.CORE), "child": (Kind.CHILD, Kind.PARENT)}
@@ -140,7 +147,7 @@ class Network:
 
 class Routers:
     """A process for each router, which ends after some packets, and a socket for the hosts of all
-    ASes. Quiet ones tell no turns."""
+    ASes. Quiet ones tell no turns. `sent` has the packets that hosts and routers have sent."""
 
     def __init__(self, network, program, packets=PACKETS, is_quiet=False):
         self.network, self.program, self.packets = network, program, packets
@@ -222,6 +229,27 @@ def prepared(lines):
     return network, next(it for it in events if it["do"] == "send")
 
 
+def lines_of_run(lines, event, payloads, turns):
+    """The lines of a run that sends a packet and then the reply, with these payloads and so many
+    turns each."""
+    kept = itertools.takewhile(lambda it: it.get("do") != "send", lines)
+    there, back = (payload.hex() for payload in payloads)
+    first = [{**event, "payload": there}, *[{"do": "turn", "packet": 0}] * turns]
+    second = [{"do": "back", "packet": 0, "payload": back}, *[{"do": "turn", "packet": 1}] * turns]
+    return "".join(json.dumps(it) + "\n" for it in (*kept, *first, *second)).encode()
+
+
+def captured(view, lines):
+    """The whole packets in the capture of a run of these lines, in their order."""
+    hosts = "--source-host", LOOPBACK, "--destination-host", LOOPBACK, "--next-header", "17"
+    given = subprocess.run([view, "capture", *hosts], input=lines, capture_output=True, check=True)
+    rest = given.stdout[FILE_HEAD:]
+    while rest:
+        end = FRAME_HEAD + int.from_bytes(rest[8:12], "big")
+        yield rest[FRAME_HEAD + HEADERS:end]
+        rest = rest[end:]
+
+
 def told_datagram(library, received):
     """Prints the datagram that a host has got."""
     packet = library.whole_packet_read(received)
@@ -232,7 +260,7 @@ def told_datagram(library, received):
 
 
 def ask_and_answer(network, event, routers):
-    """A datagram and the answer to it, each through the routers: the payload of the first packet."""
+    """A datagram and the answer to it, each through the routers: the payloads of both packets."""
     library = network.library
     *_, walk = network.path(event)
     source, destination = network.first_routers(walk)
@@ -243,23 +271,34 @@ def ask_and_answer(network, event, routers):
     answered = routers.send(reply, destination) or sys.exit("network: the reply was refused")
     if told_datagram(library, answered).data != data:
         sys.exit("network: the answer has other data")
-    return library.whole_packet_read(packet).payload
+    return [library.whole_packet_read(it).payload for it in (packet, reply)]
 
 
 def main():
-    network, event = prepared(map(json.loads, sys.stdin))
+    words = argparse.ArgumentParser(description=__doc__.partition("\n\n")[0])
+    words.add_argument("router", help="router.c, built")
+    words.add_argument("view", nargs="?", help="scionet_view, built")
+    given = words.parse_args()
+    lines = list(map(json.loads, sys.stdin))
+    network, event = prepared(lines)
     *_, walk = network.path(event)
     print(f"path {walk}", flush=True)
-    routers = Routers(network, sys.argv[1])
+    routers = Routers(network, given.router)
     try:
-        payload = ask_and_answer(network, event, routers)
+        payloads = ask_and_answer(network, event, routers)
+        sent = list(routers.sent)
         packet = bytearray(network.packet(event))
-        packet[len(packet) - len(payload) - 1] ^= 1
+        packet[len(packet) - len(payloads[0]) - 1] ^= 1
         print("a byte of the last hop's authenticator is changed", flush=True)
         if routers.send(packet, network.first_routers(walk)[0]) is not None:
             sys.exit("network: the changed packet was delivered")
     finally:
         routers.end()
+    if given.view:
+        run = lines_of_run(lines, event, payloads, 2 * walk.count("#"))
+        if list(captured(given.view, run)) != sent:
+            sys.exit("network: the datagrams are not those of the run's capture")
+        print(f"{len(sent)} datagrams are those of the run's capture")
 
 
 if __name__ == "__main__":
