@@ -5,8 +5,10 @@ use anyhow::{Context, Result, bail};
 use hop_mac::{HopInput, MacKey, hop_mac};
 use path_header::decode;
 use router_step::{Arrival, Outcome, step};
+use scion_packet::{HostAddress, PacketInfo, read, turn};
 use scion_topology::{RouterView, Topology};
 use std::alloc::Global;
+use wire_packets::wrap;
 
 /// The key under which authenticators are made.
 const KEY: [u8; 16] = *b"0123456789abcdef";
@@ -17,6 +19,9 @@ const ACCUMULATOR: usize = 23;
 
 /// The place in a packet over one segment of the first authenticator.
 const AUTHENTICATOR: usize = 34;
+
+/// The place in a whole packet of a byte without a meaning.
+const RESERVED: usize = 10;
 
 /// The flaw of a packet.
 #[derive(Clone, Copy)]
@@ -117,6 +122,51 @@ pub(crate) fn ways(alloc: Global, input: &Input, most: usize, count: u32) -> Res
         }
         for (view, arrival) in views.iter() {
             sum = sum.wrapping_add(worth(&step(view, input.now, *arrival, &mut packet)));
+        }
+    }
+    Ok(sum)
+}
+
+/// The packet with the headers that it has on the wire, between two hosts with addresses of IPv4.
+fn whole(alloc: Global, input: &Input) -> Result<Vec<u8>> {
+    let host = HostAddress::ipv4([10, 0, 0, 100]);
+    let info = PacketInfo::new(0, 1, 17, host.clone()?, host)?;
+    Ok(wrap(alloc, &info, &input.packet)?)
+}
+
+/// As [`ways`], with the packet as it is on the wire.
+pub(crate) fn whole_ways(alloc: Global, input: &Input, most: usize, count: u32) -> Result<u64> {
+    let topology = Topology::from_json(alloc, input.topology.as_bytes())?;
+    let views = first_views(alloc, &topology, input, most)?;
+    let start = whole(alloc, input)?;
+    let mut packet = start.clone()?;
+    let mut sum = 0u64;
+    for _ in 0..count {
+        if packet.len() == start.len() {
+            packet.copy_from_slice(&start);
+        }
+        for (view, arrival) in views.iter() {
+            sum = sum.wrapping_add(worth(&turn(view, input.now, *arrival, &mut packet)));
+        }
+    }
+    Ok(sum)
+}
+
+/// Reads the packet as it is on the wire `count` times, each time with another reserved byte.
+pub(crate) fn reads(alloc: Global, input: &Input, count: u32) -> Result<u64> {
+    let mut bytes = whole(alloc, input)?;
+    let mut sum = 0u64;
+    for number in 0..count {
+        if bytes.len() <= RESERVED {
+            bail!("the packet has no headers");
+        }
+        bytes[RESERVED] = (number % 256) as u8;
+        if let Ok(packet) = read(&bytes) {
+            let last = packet.header.hop_count() - 1;
+            sum = sum
+                .wrapping_add(u64::from(packet.info.reserved()))
+                .wrapping_add(u64::from(packet.header.info(0).seg_id))
+                .wrapping_add(u64::from(packet.header.hop(last).mac[5]));
         }
     }
     Ok(sum)
