@@ -110,11 +110,12 @@ def in_python(name: str) -> dict[str, int]:
     return {it: int(number) for it, number in re.findall(r"^    (\w+) = (\d+)$", body, re.M)}
 
 
-def in_javascript(name: str) -> dict[str, int]:
-    """The members of an object of the JavaScript module."""
-    text = Path("bindings/js/scion.mjs").read_text()
-    body = found(rf"^export const {name} = Object.freeze\(\{{\n(.*?)^\}}", text, re.M | re.S)[1]
-    return {it: int(number) for it, number in re.findall(r"^  (\w+): (\d+),$", body, re.M)}
+def in_javascript(name: str, file: str = "scion.mjs") -> dict[str, int]:
+    """The members of an object of the JavaScript module, or of its types."""
+    text = Path("bindings/js", file).read_text()
+    head = rf"^export const {name}(?: = Object.freeze\(|: Readonly<)\{{\n(.*?)^\}}"
+    body = found(head, text, re.M | re.S)[1]
+    return {it: int(number) for it, number in re.findall(r"^  (\w+): (\d+)[,;]$", body, re.M)}
 
 
 # The row of a code in each file that lists them.
@@ -123,6 +124,7 @@ ROWS = {
     "bindings/rust/src/raw.rs": "pub const SCION_{name}: u16 = {number};",
     "bindings/python/scion/__init__.py": "    {name} = {number}",
     "bindings/js/scion.mjs": "  {name}: {number},",
+    "bindings/js/scion.d.mts": "  {name}: {number};",
 }
 
 
@@ -244,6 +246,7 @@ def check() -> bool:
     for name, numbers in (("Kind", kinds), ("Arrival", arrivals), ("Code", answers)):
         pairs.append((f"{name} in Python", in_python(name), numbers))
         pairs.append((f"{name} in JavaScript", in_javascript(name), numbers))
+        pairs.append((f"{name} in TypeScript", in_javascript(name, "scion.d.mts"), numbers))
     variants = {name: name for name in [*kinds, *arrivals, *answers]}
     variants[OF_PACKETS] = constant(OF_WRITING)
     in_file = {name: constant(variant) for name, variant in variants_in_rust()}

@@ -64,6 +64,7 @@ STEPS = (
     Step("row_lines"),
     Step("kit"),
     Step("formatted"),
+    Step("typed"),
     Step("unit"),
     Step(BUILDS, ("ci",), minutes=600),
     Step("cases"),

@@ -290,7 +290,7 @@ def _copy(name: str, data: Bytes) -> bytes:
         return view.tobytes()
 
 
-def _room(data: bytes) -> Any:
+def _room(data: bytes) -> "ctypes.Array[ctypes.c_char]":
     """A copy of some bytes that a call may change, never of length 0."""
     return ctypes.create_string_buffer(data, max(len(data), 1))
 
@@ -394,7 +394,7 @@ class Library:
         info, path = _info(packet.info), _copy("path", packet.path)
         payload = _copy("payload", packet.payload)
         room = _room(bytes(60 + len(path) + len(payload)))
-        slices = [it for data in (path, payload, room) for it in (data, len(data))]
+        slices = [path, len(path), payload, len(payload), room, len(room)]
         given = self._calls.scion_whole_packet_write(info, *slices)
         return room.raw[: self._done(given) + len(payload)]
 
@@ -487,4 +487,5 @@ class Library:
     def _done(given: _Answer) -> int:
         if given.code:
             raise Refused(Code(given.code), Code(given.number) if given.number else None)
-        return given.number
+        number: int = given.number
+        return number
