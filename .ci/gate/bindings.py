@@ -3,10 +3,11 @@
 First it compares their numbers with the tables of the crates (`host_numbers.py`). Then it builds
 the static libraries over what `rt ci` has proved, since that leaves none, and runs the tours: in C
 by each compiler that is there (the kit's clang is), in C++, in Python, as a package too, in Rust
-and in JavaScript. Their answers are held to what the rules of routers and of paths say.
-`answers.py` compares random requests for paths with a search that tries every list of pieces, and
-`packets.py` whole packets with a second reader of them. The commands by which bindings/README.md
-links are run as they stand.
+and in JavaScript. Their answers are held to what the rules of routers and of paths say. By gcc and
+clang, what is written in C runs once more with checks of memory (`sanitized.py`). `answers.py`
+compares random requests for paths with a search that tries every list of pieces, and `packets.py`
+whole packets with a second reader of them. The commands by which bindings/README.md links are run
+as they stand.
 
 What is not on the machine is told, and left out; but without a compiler for C nothing would be
 tested, so that the status is 1 then, unless the word is `--without-compiler`. It is 1 too where an
@@ -19,9 +20,10 @@ import tempfile
 from collections.abc import Sequence
 from typing import Any
 
-from gate import TOP, children, host_numbers
+from gate import TOP, children, host_numbers, sanitized
 from gate.hosts import build
 from gate.machine import Machine
+from gate.sanitized import Compiler
 from gate.words import reader
 
 BINDINGS = str(TOP / "bindings")
@@ -31,7 +33,8 @@ GATE = [sys.executable, ".ci/gate"]
 SECONDS = 300
 
 # A tour has to be well formed by the standard, whichever compiler reads it.
-STRICT = ("-O2", "-Wall", "-Wextra", "-Wpedantic", "-Werror")
+WARNED = ("-Wall", "-Wextra", "-Wpedantic", "-Werror")
+STRICT = ("-O2", *WARNED)
 CXX = "c++"
 NODE = ["node", "--experimental-wasm-memory64"]
 VIEW = "crates/scionet_view/out/scionet_view"
@@ -43,10 +46,6 @@ PACKETS = "cases/packets/turns.tsv"
 PAGE = "bindings/README.md"
 BLOCK = re.compile(r"^<!-- run: ([^\n]*) -->\n```\n(.*?)^```$", re.M | re.S)
 CHILD = re.compile(r"^## A whole network$.*?^```\n(import .*?)^```$", re.M | re.S)
-
-
-# What compiles C: the words before the files, and those behind them.
-Compiler = tuple[list[str], list[str]]
 
 
 class Gate:
@@ -71,33 +70,37 @@ class Gate:
     def tour_in_c(self, number: int, compiler: Compiler) -> None:
         """The tours by one compiler for C: in C, and in Python over the shared object."""
         name = f"{os.path.basename(compiler[0][0])}-{number}"
-        program, shared = self.path(f"tour-by-{name}"), self.path(f"libscion-{name}.so")
-        source = os.path.join(BINDINGS, "c", "tour.c")
-        build.link_program(compiler, build.BOTH, source, program, ("-std=c11", *STRICT))
+        shared = self.path(f"libscion-{name}.so")
         build.link_shared(compiler, build.BOTH, shared)
         python = [sys.executable, "-B"]
-        self.run(f"tour by {name}", [program])
+        self.written_in_c(name, compiler, STRICT)
         tour = os.path.join(BINDINGS, "python", "tour.py")
         self.run(f"Python over {name}", [*python, tour, shared])
         self.run(f"answers over {name}", [*GATE, "answers", shared])
-        self.packets_in_c(name, compiler)
         self.run(f"whole packets in Python over {name}", [*GATE, "packets", shared])
         self.run(f"growth of calls over {name}", [*GATE, "calls_growth", shared])
-        self.routers(name, compiler)
 
-    def packets_in_c(self, name: str, compiler: Compiler) -> None:
+    def written_in_c(self, name: str, compiler: Compiler, flags: Sequence[str]) -> None:
+        """The tour, whole packets and the routers as processes, by one compiler for C."""
+        program, source = self.path(f"tour-by-{name}"), os.path.join(BINDINGS, "c", "tour.c")
+        build.link_program(compiler, build.BOTH, source, program, ("-std=c11", *flags))
+        self.run(f"tour by {name}", [program])
+        self.packets_in_c(name, compiler, flags)
+        self.routers(name, compiler, flags)
+
+    def packets_in_c(self, name: str, compiler: Compiler, flags: Sequence[str]) -> None:
         """Whole packets by one compiler for C."""
         program = self.path(f"packets-by-{name}")
         source = os.path.join(BINDINGS, "c", "packets.c")
-        build.link_program(compiler, build.ROUTER, source, program, ("-std=c11", *STRICT))
+        build.link_program(compiler, build.ROUTER, source, program, ("-std=c11", *flags))
         self.run(f"whole packets by {name}", [program], (TOP / PACKETS).read_bytes())
 
-    def routers(self, name: str, compiler: Compiler) -> None:
+    def routers(self, name: str, compiler: Compiler, flags: Sequence[str]) -> None:
         """The routers of a network as processes: examples/udp, which ends well if a packet crosses
         them and a changed one is refused."""
         program = self.path(f"router-by-{name}")
         source = os.path.join("examples", "udp", "router.c")
-        build.link_program(compiler, build.ROUTER, source, program, ("-std=gnu11", *STRICT))
+        build.link_program(compiler, build.ROUTER, source, program, ("-std=gnu11", *flags))
         words = [sys.executable, "-B", os.path.join("examples", "udp", "network.py"), program]
         if os.path.exists(VIEW):
             words.append(VIEW)
@@ -107,6 +110,15 @@ class Gate:
         for network in ("row", "pair"):
             given = (TOP / "examples" / f"{network}.txt").read_bytes()
             self.run(f"200 packets over {network} by {name}", [*GATE, "udp", program], given)
+
+    def with_checks(self) -> None:
+        """What is written in C, with checks of memory, by each compiler that has them."""
+        named: list[Compiler] = [([it], []) for it in ("gcc", "clang") if shutil.which(it)]
+        found = [it for it in named if sanitized.are_there(it, self.room)]
+        if self.machine.has_all([] if found else [sanitized.TOOL]):
+            for compiler in found:
+                name = f"{compiler[0][0]}-with-checks"
+                self.written_in_c(name, compiler, (*WARNED, *sanitized.FLAGS))
 
     def tour_in_cxx(self) -> None:
         if self.machine.has(CXX):
@@ -191,6 +203,7 @@ def main(words: Sequence[str]) -> int:
         gate = Gate(room, machine)
         for number, compiler in enumerate(compilers):
             gate.tour_in_c(number, compiler)
+        gate.with_checks()
         gate.tour_in_cxx()
         gate.documented()
         gate.package_in_python()
