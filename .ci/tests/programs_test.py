@@ -1,4 +1,5 @@
 """What the checks over built programs say of answers that are damaged."""
+import shutil
 import subprocess
 import unittest
 from pathlib import Path
@@ -6,7 +7,7 @@ from unittest import mock
 
 from gate import TOP, explain, theorem
 from gate.networks import Hop
-from gate.pictures import fault_of, topology
+from gate.pictures import fault_of, overlaid, topology
 from gate.playground_server import Checks
 
 FAULT = {"name": "a key", "at": ["ases", 0, "key"], "is": "6x", "said": ["line 1: topology no 11"]}
@@ -92,6 +93,15 @@ class Pictures(unittest.TestCase):
 
     def test_a_topology(self) -> None:
         self.assertEqual(topology(self.description).count('"ia"'), 40 + 2 * 65)
+
+    @unittest.skipUnless(shutil.which("dot"), "dot")
+    def test_lines_upon_others(self) -> None:
+        """Lines between two ASes side by side, which begin at either end, lie upon one another."""
+        self.assertEqual(overlaid(self.description), [])
+        ases = "".join(f"subgraph cluster_{it[0]} {{ {it}; }}\n" for it in ("i1", "i2", "j1", "k1"))
+        lines = "j1 -- i2 [constraint=false]; i2 -- j1 [constraint=false];"
+        found = overlaid(f"graph network {{ newrank=true;\n{ases}{lines} }}")
+        self.assertEqual(sorted(found), ["i2 -- j1", "j1 -- i2"])
 
 
 class Playground(unittest.TestCase):

@@ -29,10 +29,10 @@ const ROW_DRAWN: &str = concat!(
     r#"shape=plain, fixedsize=false, fontsize=13]; "1-ff00:0:112 0" [label=r0]; } }"#,
     "\n",
     r#"subgraph cluster_1 { label="ISD 1"; subgraph "cluster_1-ff00:0:110" { "#,
-    r#""1-ff00:0:110#1" [label=1, shape=plain, fixedsize=false]; } }"#,
+    r#""1-ff00:0:110#1" [label=1, shape=plaintext, fixedsize=false, height=0.32]; } }"#,
     "\n",
     r#"subgraph cluster_1 { label="ISD 1"; subgraph "cluster_1-ff00:0:111" { "#,
-    r#""1-ff00:0:111#1" [label=1, shape=plain, fixedsize=false]; } }"#,
+    r#""1-ff00:0:111#1" [label=1, shape=plaintext, fixedsize=false, height=0.32]; } }"#,
     "\n",
     r#""1-ff00:0:110 0" -- "1-ff00:0:110#1";"#,
     "\n",
@@ -41,10 +41,10 @@ const ROW_DRAWN: &str = concat!(
     r#""1-ff00:0:110#1" -- "1-ff00:0:111#1" [color=black, minlen=2, dir=forward];"#,
     "\n",
     r#"subgraph cluster_1 { label="ISD 1"; subgraph "cluster_1-ff00:0:111" { "#,
-    r#""1-ff00:0:111#2" [label=2, shape=plain, fixedsize=false]; } }"#,
+    r#""1-ff00:0:111#2" [label=2, shape=plaintext, fixedsize=false, height=0.32]; } }"#,
     "\n",
     r#"subgraph cluster_1 { label="ISD 1"; subgraph "cluster_1-ff00:0:112" { "#,
-    r#""1-ff00:0:112#1" [label=1, shape=plain, fixedsize=false]; } }"#,
+    r#""1-ff00:0:112#1" [label=1, shape=plaintext, fixedsize=false, height=0.32]; } }"#,
     "\n",
     r#""1-ff00:0:111 0" -- "1-ff00:0:111#2";"#,
     "\n",
@@ -54,7 +54,9 @@ const ROW_DRAWN: &str = concat!(
     "\n",
     r#"labeljust=c; fontsize=11; label="thick: a link between core ASes    "#,
     r"arrow: a link to a child    dashed: a link that is cut\n",
-    r#"r0, r1: routers    numbers: interfaces"; }"#,
+    r"r0, r1: routers    numbers: interfaces    gray: which router has which interface\n",
+    "bold box: a core AS    red: links of the packet or the path, ",
+    r#"and where the packet is"; }"#,
     "\n",
 );
 
@@ -112,7 +114,17 @@ fn a_cut_link_is_dashed_and_a_passed_one_red(rt: HostRuntime) -> Result<(), Fail
     expect_picture(&rt, rt.alloc(), &topology, &passed, Some(router), &picture)
 }
 
-/// The picture of this many core ASes without a link, without routers.
+/// A link between two core ASes, without routers: its point, and a line to each of them.
+const CORE_LINK_DRAWN: &str = concat!(
+    r#""1-1#1~1-2#10000" [shape=point, width=0.1];"#,
+    "\n",
+    r#""1-1#1~1-2#10000" -- "1-1" [minlen=3, penwidth=2, headlabel=1];"#,
+    "\n",
+    r#""1-1#1~1-2#10000" -- "1-2" [minlen=3, penwidth=2, headlabel=10000];"#,
+    "\n",
+);
+
+/// The picture of this many core ASes with a link between the first two, without routers.
 fn core_ases_drawn(alloc: Global, count: usize) -> Result<String, AllocError> {
     let mut picture = String::from_str(
         alloc,
@@ -122,6 +134,8 @@ fn core_ases_drawn(alloc: Global, count: usize) -> Result<String, AllocError> {
             "\n",
             r#"node [shape=box, style=rounded, fontsize=11, fontname="sans-serif"];"#,
             "\n",
+            r#"edge [fontsize=8, fontcolor=blue, fontname="sans-serif", labeldistance=1.4, "#,
+            "arrowsize=0.7];\n",
         ),
     )?;
     for one in 1..=count {
@@ -131,9 +145,12 @@ fn core_ases_drawn(alloc: Global, count: usize) -> Result<String, AllocError> {
             r#""1-{one}" [label="1-{one} core", style=bold]; }}"#
         )?;
     }
+    picture.push_str(CORE_LINK_DRAWN)?;
     picture.push_str(concat!(
-        r#"labeljust=c; fontsize=11; label="thick: a link between core ASes    "#,
-        r#"arrow: a link to a child    dashed: a link that is cut"; }"#,
+        r#"labeljust=c; fontsize=11; label="point with two lines: a link between core ASes    "#,
+        r"arrow: a link to a child    dashed: a link that is cut    blue: interfaces\n",
+        "bold box: a core AS    red: links of the packet or the path, ",
+        r#"and where the packet is"; }"#,
         "\n",
     ))?;
     Ok(picture)
@@ -143,7 +160,7 @@ fn core_ases_drawn(alloc: Global, count: usize) -> Result<String, AllocError> {
 #[test]
 fn many_ases_are_drawn_without_routers(rt: HostRuntime) -> Result<(), Fail> {
     let alloc = rt.alloc();
-    let topology = Topology::from_json(alloc, ring(alloc, 21, 0)?.as_bytes())?;
+    let topology = Topology::from_json(alloc, ring(alloc, 21, 1)?.as_bytes())?;
     assert_eq!(rt; topology.ases().len(), MAX_DETAILED + 1);
     let picture = core_ases_drawn(alloc, 21)?;
     expect_picture(&rt, alloc, &topology, &[], None, &picture)

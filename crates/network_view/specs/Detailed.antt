@@ -57,7 +57,7 @@ detailed_as at one =
 unfoldable pub interface_text : End → List ℕ
 interface_text end =
     isd_text (isd_of end.ia) ++ (box_text end.ia ++ (interface_name end ++ (codes " [label="
-    ++ (decimal end.number ++ codes ", shape=plain, fixedsize=false]; } }\n"))))
+    ++ (decimal end.number ++ codes ", shape=plaintext, fixedsize=false, height=0.32]; } }\n"))))
 
 -- the line from a router to its interface, which stands below it
 unfoldable pub way_down : End → List ℕ
@@ -96,9 +96,11 @@ detailed_layout =
     ++ codes "node [shape=circle, width=0.3, fixedsize=true, fontsize=10, fontname=\"sans-serif\"];\n"
     ++ codes "edge [color=gray];\n"
 
--- what lines and signs mean, below the picture
+-- what lines, boxes and signs mean, below the picture
 abbrev pub detailed_legend : List ℕ
 detailed_legend =
     codes "labeljust=c; fontsize=11; label=\"thick: a link between core ASes    "
     ++ codes "arrow: a link to a child    dashed: a link that is cut\\n"
-    ++ codes "r0, r1: routers    numbers: interfaces\"; }\n"
+    ++ codes "r0, r1: routers    numbers: interfaces    gray: which router has which interface\\n"
+    ++ codes "bold box: a core AS    red: links of the packet or the path, "
+    ++ codes "and where the packet is\"; }\n"

@@ -25,12 +25,14 @@ edge [color=gray];
 "
 }
 
-/// What lines and signs mean, below the picture.
+/// What lines, boxes and signs mean, below the picture.
 pub(crate) fn legend() -> &'static str
     ensures { result.now ≡ detailed_legend }
 {
     "labeljust=c; fontsize=11; label=\"thick: a link between core ASes    arrow: a \
-     link to a child    dashed: a link that is cut\\nr0, r1: routers    numbers: interfaces\"; }\n"
+     link to a child    dashed: a link that is cut\\nr0, r1: routers    numbers: interfaces    \
+     gray: which router has which interface\\nbold box: a core AS    red: links of the packet or \
+     the path, and where the packet is\"; }\n"
 }
 
 /// The look of a router.
@@ -128,7 +130,7 @@ fn add_interface(text: &mut String, end: &End) -> Result<(), AllocError>
     let number = end.number;
     write!(
         text,
-        " [label={number}, shape=plain, fixedsize=false]; }} }}\n"
+        " [label={number}, shape=plaintext, fixedsize=false, height=0.32]; }} }}\n"
     )
 }
 

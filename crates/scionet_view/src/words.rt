@@ -29,7 +29,7 @@ Example: at second 100, a packet of a host leaves 1-ff00:0:111 over interface 2,
 static NETWORK_HELP: &str = "\
 Standard input has the lines of 'scionet run'. The picture is that of the network after the last \
 of them, in the language DOT: 'dot -Tsvg' of graphviz draws it. A network of more than 20 ASes is \
-drawn without routers and interfaces. With --packet the links that this \
+drawn without routers. With --packet the links that this \
 packet has passed are red, and so is the router at which it is or which refused it. With --answer \
 the links of a path of this answer are red. 'no 130 NoPacket' or 'no 133 NoAnswer' is printed if \
 there is no such packet or path.
