@@ -2,9 +2,9 @@
 started again. Standard input has the lines that `network.py` takes.
 
 Each packet has to arrive with its own payload, and none while the router is gone. A packet from
-another address than 127.0.0.1 must not be taken, even by the port of a router or a host, and a
-router must not begin with a key that is none. The last line has the number of checks and of what
-was wrong; the status is 1 where something was."""
+another address than 127.0.0.1 must not be taken, even by the port of a router or a host, and none
+may end a router, which must not begin with a key that is none. The last line has the number of
+checks and of what was wrong; the status is 1 where something was."""
 import json
 import socket
 import sys
@@ -74,6 +74,11 @@ class Sent:
                 taken = self.arrives(PACKETS + 1, stranger)
                 self.check(f"a packet of {ELSEWHERE}:{port} was taken", not taken)
 
+    def still_run(self) -> None:
+        """No packet and no stranger has ended a router."""
+        for owner, child in self.routers.children.items():
+            self.check(f"the router {owner} has ended", child.poll() is None)
+
     def bad_keys(self) -> None:
         """Keys that are none. A router that takes one would end after a second."""
         words = [self.routers.program, *map(str, self.routers.words(*self.first))]
@@ -95,6 +100,7 @@ def main(words: Sequence[str]) -> int:
         sent.stop_one()
         sent.cross(range(PACKETS // 2, PACKETS))
         sent.strangers()
+        sent.still_run()
         sent.bad_keys()
     finally:
         sent.routers.end()
