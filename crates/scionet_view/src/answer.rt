@@ -10,13 +10,15 @@ use combinator::Path;
 use event_lines::RunFault;
 use forwarding::frame;
 use hop_mac::{expiry, hop_is_live};
-use network_core::{EventFault, Given};
+use network_core::{EventFault, Given, Net};
 use packet_view::fields_text;
 use path_segment::Entry;
 use path_verifier::{Piece, Pieces, VerifiedPath, VerifyFault, lend_all, verify};
-use policy_expr::Policy;
+use policy_expr::{Policy, WalkHop};
 use refusal::NumberedFault;
+use scion_topology::Topology;
 use std::alloc::{AllocError, Global};
+use std::fmt::Write;
 use streams::Source;
 
 /// The first hop of a piece, in order of travel, that is not live at this second.
@@ -47,16 +49,45 @@ fn expired_text(alloc: Global, pieces: &Pieces<'_>, now: u32) -> Result<String, 
     Ok(String::new(alloc))
 }
 
+/// Whether the link by which a hop leaves its AS is down.
+fn is_down(topology: &Topology, hop: &WalkHop) -> bool {
+    let Some(place) = topology.link_place(hop.ia, hop.egress) else {
+        return false;
+    };
+    match topology.links().get(place) {
+        Some(link) => !link.up,
+        None => false,
+    }
+}
+
+/// The links of a path that are down, each by the end at which a packet comes to it: the router
+/// there would refuse it.
+fn down_text(alloc: Global, topology: &Topology, walk: &[WalkHop]) -> Result<String, AllocError> {
+    let mut text = String::new(alloc);
+    for hop in walk {
+        if is_down(topology, hop) {
+            let (ia, number) = (hop.ia, hop.egress);
+            write!(text, "; link {ia}#{number} is down")?;
+        }
+    }
+    Ok(text)
+}
+
 /// Whether a packet may be sent at this second on a path of these pieces: the verifier's answer,
-/// and of an expired path also the hop.
+/// of an expired path also the hop, and of one that is accepted the links that are down.
 fn sending_text(
     alloc: Global,
     verified: Result<VerifiedPath<'_, '_, Global>, VerifyFault>,
+    topology: &Topology,
     pieces: &Pieces<'_>,
     now: u32,
 ) -> Result<String, AllocError> {
-    let Err(fault) = verified else {
-        return String::from_str(alloc, "send: ok\n");
+    let fault = match verified {
+        Ok(path) => {
+            let down = down_text(alloc, topology, path.walk())?;
+            return format!(in alloc; "send: ok{}\n", down.as_str());
+        }
+        Err(fault) => fault,
     };
     let (code, name) = (fault.code(), fault.name());
     let hop = match fault {
@@ -93,19 +124,29 @@ fn packet_fields(alloc: Global, way: &Given<'_>) -> Result<String, AllocError> {
     fields_text(alloc, &packet)
 }
 
-/// What is said of a way at this second.
-fn report_text(alloc: Global, way: &Given<'_>, now: u32) -> Result<String, AllocError> {
+/// What is said of a way in a network at this second.
+fn report_text(
+    alloc: Global,
+    topology: &Topology,
+    way: &Given<'_>,
+    now: u32,
+) -> Result<String, AllocError> {
     let mut text = known_text(alloc, way)?;
-    let sending = sending_text(alloc, verdict_at(way, now), way.pieces, now)?;
+    let sending = sending_text(alloc, verdict_at(way, now), topology, way.pieces, now)?;
     text.push_str(sending.as_str())?;
     let fields = packet_fields(alloc, way)?;
     text.push_str(fields.as_str())?;
     Ok(text)
 }
 
-/// What is said of a path of an answer at this second. Its policy was that of the answer's option,
-/// so here it is verified without one.
-fn path_report(alloc: Global, path: &Path, now: u32) -> Result<String, AllocError> {
+/// What is said of a path of an answer in a network at this second. Its policy was that of the
+/// answer's option, so here it is verified without one.
+fn path_report(
+    alloc: Global,
+    topology: &Topology,
+    path: &Path,
+    now: u32,
+) -> Result<String, AllocError> {
     let [first, .., last] = path.walk() else {
         return fault_line(alloc, EventFault::NoAnswer);
     };
@@ -118,21 +159,21 @@ fn path_report(alloc: Global, path: &Path, now: u32) -> Result<String, AllocErro
         header: path.header(),
         policy: &policy,
     };
-    report_text(alloc, &way, now)
+    report_text(alloc, topology, &way, now)
 }
 
-/// What is said of a path at the network's second, or the line that there is no such path.
-fn answer_text(alloc: Global, path: Option<&Path>, now: u32) -> Result<String, AllocError> {
+/// What is said of a path in the network, or the line that there is no such path.
+fn answer_text(alloc: Global, net: &Net, path: Option<&Path>) -> Result<String, AllocError> {
     match path {
-        Some(path) => path_report(alloc, path, now),
+        Some(path) => path_report(alloc, net.topology(), path, net.now()),
         None => fault_line(alloc, EventFault::NoAnswer),
     }
 }
 
 /// What is said of the path of this number in the answer of this number, in the network after the
-/// lines of a source; whether a packet may be sent on it then, and if not, the rule that is broken;
-/// and the fields of such a packet, without payload. The line `no 133 NoAnswer` if there is no such
-/// path.
+/// lines of a source; whether a packet may be sent on it then, and if not, the rule that is broken,
+/// or else its links that are down; and the fields of such a packet, without payload. The line `no
+/// 133 NoAnswer` if there is no such path.
 ///
 /// The faults are those of [`listen`](event_lines::listen) without [`RunFault::Write`];
 /// [`RunFault::Memory`] also if memory runs out for the text.
@@ -146,7 +187,7 @@ pub(crate) fn answer_path<S: Source>(
 {
     let text = {
         let net = network_after(alloc, source)?;
-        answer_text(alloc, path_at(&net, answer, path), net.now())
+        answer_text(alloc, &net, path_at(&net, answer, path))
     };
     Ok(text?)
 }

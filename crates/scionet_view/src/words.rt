@@ -49,7 +49,8 @@ its hops are live; and its fields as 'packet' prints them. 'no 130 NoPacket' is 
 is no such packet.
 
 With --answer the same is printed of a path of this answer, with the fields of a packet without \
-payload. Before them is a line that says whether a packet may be sent on it now: 'send: ok', or \
+payload. Before them is a line that says whether a packet may be sent on it now: 'send: ok', with \
+each link of the path that is down, where the packet would be refused; or \
 'send: no' with the number and the name of the refusal, the rule that is broken, and the hop that \
 breaks it. 'no 133 NoAnswer' is printed if there is no such path.
 
