@@ -2,30 +2,32 @@
 
 A block of a document that begins with ```sh is commands, and a block ```text right behind it is
 what they print; without one they print nothing. A block ```sh skip is not run. The blocks of a
-document run one after the other in one shell, in `crates/scionet`, over the programs that `rt ci`
-has proved and built: in sh, and in zsh where it is. A block that needs a package of Python which
-is not on the machine is told, and left out.
+document run one after the other in one shell, at the top of the repository and with the programs on
+its path that `rt ci` has proved and built: in sh, and in zsh where it is. No block may leave the
+shell in another folder. A block that needs a package of Python which is not on the machine is told,
+and left out.
 
-With `--unproved FILE` it runs the blocks of one document before anything is proved, and prints them
-with what they print. It builds each program that they call without a proof (`rt try`), which
-takes a minute or two for each, and runs it in a folder of its own; nothing is left behind. Blocks
-that call the library for other languages are left out, and so are the diagnostics of programs.
+With `--unproved FILE` it runs the blocks of one document over the programs in out/unproved, which
+it builds if they are not there (`python3 .ci/gate unproved`), and prints them with what they print.
+Blocks that call the library for other languages are left out, since that library is proved.
 """
+import os
 import re
 import sys
-import tempfile
 from collections.abc import Iterable, Sequence
 from pathlib import Path
 
-from gate import children
+from gate import children, unproved
 from gate.machine import Machine
-from gate.unproved import Stage
 from gate.words import reader
 
 DOCUMENTS = ("README.md", "docs/tutorial.md", "docs/programs.md", "docs/check-it.md")
 SHELLS = ("sh", "zsh")
 BLOCK = re.compile(r"^```sh\n(.*?)^```$(?:\n+^```text\n(.*?)^```$)?", re.M | re.S)
 MARK = "-- end of block"
+
+# The folders of the programs that `rt ci` has proved and built.
+PROVED = tuple(Path("crates", it, "out") for it in unproved.PROGRAMS)
 
 # The seconds that the blocks of one document may take.
 SECONDS = 600
@@ -48,17 +50,21 @@ def can_run(commands: str, machine: Machine) -> bool:
     return machine.has_modules(*needed)
 
 
-def printed(shell: str, asked: Iterable[str], folder: Path) -> list[str]:
-    """What the shell prints at each of these blocks, one after the other, begun in this folder."""
-    script = "".join(f"{{ {it}}} 2>&1 < /dev/null\necho '{MARK}'\n" for it in asked)
-    done = children.run([shell], script.encode(), SECONDS, cwd=folder)
+def printed(shell: str, asked: Iterable[str], programs: Iterable[Path]) -> list[str]:
+    """What the shell prints at each of these blocks, one after the other, with the programs of these
+    folders; behind a block that leaves it in another folder it says so."""
+    stays = f"[ \"$PWD\" = '{Path.cwd()}' ] || echo 'the shell is in another folder'"
+    script = "".join(f"{{ {it}}} 2>&1 < /dev/null\n{stays}\necho '{MARK}'\n" for it in asked)
+    path = os.pathsep.join([*(str(it.resolve()) for it in programs), os.environ["PATH"]])
+    env = {**os.environ, "PATH": path, "PWD": str(Path.cwd())}
+    done = children.run([shell], script.encode(), SECONDS, env=env)
     return done.stdout.decode(errors="replace").split(f"{MARK}\n")
 
 
 def compare(shell: str, name: str, machine: Machine) -> tuple[int, int]:
     """How many blocks a document has, and how many print something else in this shell."""
     wrong, pairs = 0, blocks(name, machine)
-    found = printed(shell, [commands for commands, _ in pairs], Path("crates/scionet"))
+    found = printed(shell, [commands for commands, _ in pairs], PROVED)
     for (commands, wanted), is_so in zip(pairs, [*found, *[""] * len(pairs)]):
         if is_so != wanted:
             wrong += 1
@@ -70,12 +76,7 @@ def compare(shell: str, name: str, machine: Machine) -> tuple[int, int]:
 def rehearse(name: str, machine: Machine) -> int:
     """Prints the blocks of a document with what they print over unproved programs."""
     pairs = [pair for pair in blocks(name, machine) if "bindings/" not in pair[0]]
-    asked = [commands for commands, _ in pairs]
-    with tempfile.TemporaryDirectory() as folder:
-        stage = Stage(Path(folder))
-        found = printed("sh", asked, stage.begun_in)
-        while stage.answer():
-            found = printed("sh", asked, stage.begun_in)
+    found = printed("sh", [commands for commands, _ in pairs], [unproved.built()])
     wrong = 0
     for (commands, wanted), text in zip(pairs, found):
         wrong += text != wanted
@@ -97,4 +98,3 @@ def main(words: Sequence[str]) -> int:
     count, wrong = (sum(it) for it in zip(*counts))
     print(machine.told(f"documents: {count} blocks, {wrong} wrong"))
     return 1 if wrong or not count else 0
-

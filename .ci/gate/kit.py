@@ -2,6 +2,8 @@
 `rt version` prints, the text of `--version` has the kit's logic, and so has each certificate that a
 page shows. The status is 1 where one has not."""
 import re
+import shutil
+import sys
 from collections.abc import Sequence
 from pathlib import Path
 
@@ -11,6 +13,14 @@ from gate.words import reader
 
 SUM = re.compile(r"\b(?:sum=|logic )([0-9a-f]{16})\b")
 README, VERSION = "README.md", "crates/commands/src/words.rt"
+
+
+def folder() -> Path:
+    """The folder of the kit that `rt` is of."""
+    rt = shutil.which("rt")
+    if rt is None:
+        sys.exit("no rt on the path")
+    return Path(rt).resolve().parents[1]
 
 
 def faults(kit: str) -> list[str]:

@@ -24,7 +24,7 @@ from collections.abc import Iterator, Sequence
 from pathlib import Path
 from typing import NamedTuple, NoReturn
 
-from gate import TOP, children
+from gate import TOP, children, kit
 from gate.words import reader
 
 SOURCE = Path(__file__).with_suffix(".c")
@@ -90,11 +90,7 @@ def executable(crate: str, name: str) -> str:
 
 def built(room: str) -> str:
     """The library that refuses an allocation, built by the clang of the kit that `rt` is of."""
-    rt = shutil.which("rt")
-    if rt is None:
-        stop("no rt on the path")
-    kit = os.path.dirname(os.path.dirname(os.path.realpath(rt)))
-    clang = os.environ.get("CC") or os.path.join(kit, "toolchain", "bin", "clang")
+    clang = os.environ.get("CC") or str(kit.folder() / "toolchain/bin/clang")
     if shutil.which(clang) is None:
         stop(f"no compiler {clang}")
     library = os.path.join(room, "refuse.so")

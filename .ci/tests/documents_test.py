@@ -41,7 +41,11 @@ class Documents(unittest.TestCase):
         with tempfile.TemporaryDirectory() as room, contextlib.redirect_stdout(out):
             os.chdir(room)
             try:
-                Path("crates/scionet").mkdir(parents=True)
+                for folder in documents.PROVED:
+                    folder.mkdir(parents=True)
+                program = documents.PROVED[0] / "scionet"
+                program.write_text("#!/bin/sh\necho proved\n", encoding="utf-8")
+                program.chmod(0o755)
                 Path("page.md").write_text(page, encoding="utf-8")
                 with mock.patch.object(documents, "PACKAGES", {"tools/topo.py": "no_such_module"}):
                     count, wrong = compare("sh", "page.md", machine)
@@ -59,6 +63,18 @@ class Documents(unittest.TestCase):
             count, wrong, said, _ = self.compared(PAGE.replace(old, new))
             self.assertEqual((count, wrong), (2, 1))
             self.assertIn("documents: it printed", said)
+
+    def test_the_programs(self) -> None:
+        """Those that `rt ci` has built stand on the path, before all others."""
+        page = PAGE.replace("echo a", "scionet run").replace("```text\na\n", "```text\nproved\n")
+        self.assertEqual(self.compared(page)[:2], (2, 0))
+
+    def test_another_folder(self) -> None:
+        """A block that leaves the shell in another folder is wrong, and so is each one behind."""
+        count, wrong, said, _ = self.compared(PAGE.replace("it=b", "it=b; cd crates"))
+        self.assertEqual((count, wrong), (2, 2))
+        self.assertIn("the shell is in another folder", said)
+        self.assertEqual(self.compared(PAGE.replace("it=b", "it=b; (cd crates)"))[:2], (2, 0))
 
     def test_no_commands(self) -> None:
         with self.assertRaisesRegex(SystemExit, "has no commands"):
