@@ -1,13 +1,13 @@
 """Prints the book: the definitions that the headline cites, from the top for the first hour, the
-rest by crate, and then how the headline is a clause of the calls that run networks. This is
-docs/book.md."""
+rest by crate, and then how the headline is a clause of the calls that run networks. The first part
+is docs/book.md; `python3 .ci/gate pages` makes a page of the whole."""
 import re
 import sys
 from collections.abc import Iterator, Sequence
 from pathlib import Path
 from typing import Any
 
-from gate.pages import filled, settle
+from gate.printing import filled, settle
 from gate.specs import WORD, Definition, Module, Specs
 
 MOST_IN_FIRST_HOUR = 350
@@ -18,13 +18,18 @@ SENTENCE = """\
 > in order, and is delivered in its destination AS once it has had two router turns per hop field;
 > these hops are a word of the policy's sequence and pass its ACL."""
 
-FRONT = f"""# The book of the headline
+# What the front says of the parts, on the page of the first one and on that of all.
+FIRST_PART = """\
+This page is the first hour: the promise, the premises, and what an event does, from the top down.
+`python3 .ci/gate pages` makes a page of the whole book, `out/pages/book.md`: the rest of what the
+theorem cites, crate by crate, and the contracts of the two calls that run networks. A definition
+with a link is on this page; one without is on that one.
 
-What a reader has to believe to believe this sentence about a run of `scionet`, which is one process
-where turns are events of a list, and no more:
-
-{SENTENCE}
-
+`.ci/gate/book.py` prints this page from the crates, without imports; the gate checks that it is up
+to date. Nobody has to believe what is in `proofs/`. [headline.md](headline.md) says the same in
+words.
+"""
+ALL_PARTS = """\
 - [Part 0](#part-0-the-first-hour) is for the first hour, and is read from the top down: the
   promise, the premises, and what an event does.
 - [Part 1](#part-1-the-rest-of-the-theorem) has the rest of what the theorem cites, crate by crate,
@@ -32,10 +37,16 @@ where turns are events of a list, and no more:
 - [Part 2](#part-2-how-the-theorem-is-a-clause-of-calls) has the contracts of the two calls that run
   networks, and what those cite beside the theorem.
 
-`.ci/gate/book.py` prints this document from the crates, without imports; the gate checks that it is
-up to date. Nobody has to believe what is in `proofs/`. [headline.md](headline.md) says the same in
-words.
+Nobody has to believe what is in `proofs/`. [headline.md](headline.md) says the same in words.
+"""
+FRONT = f"""# The book of the headline
 
+What a reader has to believe to believe this sentence about a run of `scionet`, which is one process
+where turns are events of a list, and no more:
+
+{SENTENCE}
+
+PARTS
 ## How to read it
 
 Above each definition stand its name and links to what it cites. A definition says what it takes and
@@ -166,6 +177,9 @@ CALLS = (
 )
 
 
+# A link to a definition.
+LINK = re.compile(r"\[([^]]*)\]\(#([\w-]+)\)")
+
 # The crates of a part: the name of one, its types, and its files with their definitions.
 Page = tuple[str, list[Definition], list[tuple[Module, list[Definition]]]]
 
@@ -193,7 +207,9 @@ class Book:
         )
         self.printed = [it for part in self.parts for it in part] + self.calls
         self.library = {word for it in self.printed for word in self.specs.library(it)}
+        self.signs = self.signs_in(self.printed)
         self.types = {it.key[2]: it for it in self.printed if it.variants or not it.key[1]}
+        self.on_page = {it.key for it in self.printed}
         self.shared, self.paired = self.shared_constructors()
 
     def shared_constructors(self) -> tuple[set[str], set[str]]:
@@ -252,8 +268,9 @@ class Book:
             for word, it in self.cited(one):
                 words = found.setdefault(it.anchor, {})
                 words[f"`{self.shown(one, word).replace('◌', '')}`"] = None
+        here = {it.anchor for it in self.printed if it.key in self.on_page}
         pairs = [(" ".join(words), it) for it, words in found.items() if it not in own]
-        return ", ".join(f"[{words}](#{anchor})" for words, anchor in pairs)
+        return ", ".join(f"[{words}](#{it})" if it in here else words for words, it in pairs)
 
     def entry(self, *group: Definition) -> Iterator[str]:
         """Definitions that stand together, with their anchors and their links."""
@@ -268,8 +285,9 @@ class Book:
 
     def first_hour(self) -> Iterator[str]:
         yield "## Part 0: the first hour\n"
+        here = {it.anchor for it in self.printed if it.key in self.on_page}
         for words, places in FIRST_HOUR:
-            yield filled(words) + "\n"
+            yield filled(LINK.sub(lambda it: it[0] if it[2] in here else it[1], words)) + "\n"
             for place in places.split():
                 yield from self.entry(self.specs.definition(place))
 
@@ -340,27 +358,42 @@ class Book:
             yield f"| {name} | {len(part)} | {lines} | {lines + comments} |"
         yield ""
 
-    def words(self) -> Iterator[str]:
-        """The table of the library's words."""
+    def words(self, used: set[str]) -> Iterator[str]:
+        """The rows of the library's words that have one of these; those of the logic are in all."""
         yield "| words | meaning |\n|---|---|"
         for words, meaning in LIBRARY:
+            named = {*words.split()}
+            if named & self.signs and not named & used:
+                continue
             signs = " ".join(f"`{it}`" for it in words.replace("|", "\\|").split())
             yield f"| {signs} | {meaning} |"
         yield ""
 
+    def signs_in(self, part: list[Definition]) -> set[str]:
+        """The words of the library that some definitions use, sign by sign."""
+        found = {word for it in part for word in self.specs.library(it)}
+        return {sign for word in found for sign in word.replace("◌", " ").split()}
+
     def unexplained(self) -> list[str]:
         """The words of the library that the table lacks."""
         known = " ".join(words for words, _ in LIBRARY).split()
-        used = {sign for word in self.library for sign in word.replace("◌", " ").split()}
-        return sorted(used - {*known})
+        return sorted(self.signs - {*known})
 
-    def text(self) -> str:
+    def first_page(self) -> str:
+        """The page of the first hour."""
+        self.on_page = {it.key for it in self.first}
         first = "\n".join(self.first_hour())
         if (count := len(first.splitlines())) > MOST_IN_FIRST_HOUR:
             sys.exit(f"part 0 of the book has {count} lines, more than {MOST_IN_FIRST_HOUR}")
+        words = self.words(self.signs_in(self.first))
+        return "\n".join([FRONT.replace("PARTS", FIRST_PART), *words, first]).rstrip("\n") + "\n"
+
+    def text(self) -> str:
+        """The page of all parts."""
+        self.on_page = {it.key for it in self.printed}
         two = [REST, *self.chapter(self.parts[1]), CLAUSES, *self.contracts(), BESIDE]
-        parts = [FRONT, *self.words(), *self.table(), first, *two, *self.chapter(self.parts[2])]
-        return "\n".join(parts)
+        front = [FRONT.replace("PARTS", ALL_PARTS), *self.words(self.signs), *self.table()]
+        return "\n".join([*front, *self.first_hour(), *two, *self.chapter(self.parts[2])])
 
 
 def together(module: Module, own: list[Definition]) -> list[list[Definition]]:
@@ -386,16 +419,20 @@ bytes over.
 BESIDE = "What these contracts cite beside parts 0 and 1:\n"
 
 
-def document() -> str:
-    """The whole text, if it is whole and in order."""
+def in_order() -> Book:
+    """The book, if it is whole and in order."""
     book = Book(Path("."))
-    text = book.text()
     for key in book.cited_too_early():
         sys.exit(f"the book cites {'/'.join(key)} before it says what that is")
     if words := book.unexplained():
         sys.exit(f"the book's table of words lacks {' '.join(words)}")
-    return text
+    return book
+
+
+def whole() -> str:
+    """The page of all parts."""
+    return in_order().text()
 
 
 def main(words: Sequence[str]) -> int:
-    return settle(__name__, __doc__, words, lambda: {"docs/book.md": document()})
+    return settle(__name__, __doc__, words, lambda: {"docs/book.md": in_order().first_page()})

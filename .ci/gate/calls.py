@@ -1,13 +1,13 @@
 """Prints what each crate offers to those above it: its types, its calls with the names of their
 clauses and the definitions that these cite, and its limits, each with the first sentence of its
-comment. This is docs/calls.md."""
+comment. `python3 .ci/gate pages` makes this page."""
 import math
 import re
 import sys
-from collections.abc import Iterator, Sequence
+from collections.abc import Iterator
 from pathlib import Path
 
-from gate.pages import filled, settle
+from gate.printing import filled
 from gate.specs import Specs
 from gate.surface import LAWS, Clause, Item, Surface
 
@@ -27,8 +27,6 @@ say it. A clause without a name counts as 'one', and is left out where it is the
 something. 'Asks for' names what a caller has to show. A call with none of these promises only that
 it is safe and ends. Clauses and the sentences of refusals have the numbers of the limits
 themselves.
-
-`.ci/gate/calls.py` prints this document from the code; the gate checks that it is up to date.
 
 ## Limits
 
@@ -141,6 +139,5 @@ def document() -> Iterator[str]:
         yield from chapter(surface, specs)
 
 
-def main(words: Sequence[str]) -> int:
-    made = lambda: {"docs/calls.md": "\n".join(document()) + "\n"}
-    return settle(__name__, __doc__, words, made)
+def page() -> str:
+    return "\n".join(document()) + "\n"

@@ -10,7 +10,7 @@ import textwrap
 from collections.abc import Iterator, Sequence
 from pathlib import Path
 
-from gate.pages import filled, settle
+from gate.printing import filled, settle
 
 TITLE = re.compile(r"# `(\w+)`: (.*)\n")
 TAKEN = re.compile(r"^From \[`(.*?)`\].*:\n\n```\w+\n(.*?)```$", re.M | re.S)

@@ -1,27 +1,24 @@
 """Prints the definitions of `specs/`, by crate and file, each with its comment; a reader has to
-believe these and the contracts that cite them. This is docs/definitions.md."""
-from collections.abc import Iterator, Sequence
+believe these and the contracts that cite them. `python3 .ci/gate pages` makes this page."""
+from collections.abc import Iterator
 from pathlib import Path
 
 from gate.book import Book
-from gate.pages import filled, settle
+from gate.printing import filled
 from gate.specs import Definition, Module
 
 FRONT = """# Definitions
 
 What a reader has to believe besides the contracts: the definitions of `crates/NAME/specs`, by crate
 and file, lowest crate first, each with the comment that stands above it. A name that is a link is
-also in [the book](book.md), with its text: to believe the headline, read that, since it has exactly
-what the headline cites. Here are also the definitions of the other promises;
+also in [the whole book](book.md), with its text: to believe the headline, read that, since it has
+exactly what the headline cites. Here are also the definitions of the other promises;
 [calls.md](calls.md) has the calls that cite them.
 
 A definition whose result is of `Type 0` is a statement; any other is a value that is computed. In
 comments, a chain of refusals as 'NotHere, then Loop' is in the order in which they are looked for.
 Nobody has to believe what is in `proofs/`, which the prover checks, nor, for public calls, what is
 in `specs/inner/`: only contracts of private functions, and what types keep, cite that.
-
-`.ci/gate/definitions.py` prints this document from the crates; the gate checks that it is up to
-date.
 """
 
 
@@ -73,6 +70,5 @@ def document() -> Iterator[str]:
             yield ""
 
 
-def main(words: Sequence[str]) -> int:
-    made = lambda: {"docs/definitions.md": f"{FRONT}\n" + "\n".join(document()).rstrip("\n") + "\n"}
-    return settle(__name__, __doc__, words, made)
+def page() -> str:
+    return f"{FRONT}\n" + "\n".join(document()).rstrip("\n") + "\n"

@@ -8,7 +8,7 @@ import re
 from collections.abc import Sequence
 from pathlib import Path
 
-from gate.pages import settle
+from gate.printing import settle
 
 NAMES = "row", "pair", "fork"
 WORKED = "crates/worked/src/networks.rt"

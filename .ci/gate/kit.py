@@ -8,7 +8,7 @@ from collections.abc import Sequence
 from pathlib import Path
 
 from gate import children
-from gate.pages import files
+from gate.printing import files
 from gate.words import reader
 
 SUM = re.compile(r"\b(?:sum=|logic )([0-9a-f]{16})\b")

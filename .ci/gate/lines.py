@@ -9,7 +9,7 @@ from pathlib import Path
 from typing import Any
 
 from gate.fault_tables import TYPES, numbers_of
-from gate.pages import settle
+from gate.printing import settle
 from gate.specs import Definition, Specs
 
 PAGE = Path("docs/lines.md")

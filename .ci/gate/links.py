@@ -2,12 +2,13 @@
 or to a heading or an anchor that its file lacks. Links to other hosts are not followed.
 
 It prints how many links there are and how many are dead, and ends with 1 where one is."""
+import os
 import re
 from collections.abc import Iterator, Sequence
 from pathlib import Path
 from urllib.parse import unquote
 
-from gate.pages import files
+from gate.printing import files
 from gate.words import reader
 
 BLOCK = re.compile(r"^( *)(```+|~~~+).*?^ *\2`*~*$", re.M | re.S)
@@ -48,10 +49,11 @@ def anchors(text: str) -> set[str]:
 
 
 def is_dead(source: Path, target: str, known: dict[Path, set[str]]) -> bool:
-    """Whether the target of a link of this file is missing."""
+    """Whether the target of a link of this file is missing. The files whose anchors are known need
+    not be there."""
     path, _, anchor = unquote(target).partition("#")
-    place = (source.parent / path).resolve() if path else source.resolve()
-    if not place.exists():
+    place = Path(os.path.abspath(source.parent / path if path else source))
+    if place not in known and not place.exists():
         return True
     if not anchor or place.suffix != ".md":
         return False

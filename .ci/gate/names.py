@@ -7,10 +7,10 @@ import re
 from collections.abc import Iterable, Sequence
 from pathlib import Path
 
-from gate.pages import files
+from gate.printing import files
 from gate.words import reader
 
-PRINTED = {f"docs/{name}.md" for name in "book calls definitions".split()}
+PRINTED = {"docs/book.md"}
 BLOCK = re.compile(r"^ *(```+).*?^ *\1$", re.M | re.S)
 SPAN = re.compile(r"`([^`]+)`")
 NAME = re.compile(r"\b(?=\w*_|[A-Z][a-z]+\w*[A-Z])[A-Za-z]\w+(?<!_)\b")

@@ -1,57 +1,80 @@
-"""What the checks of printed pages share: how a page is filled, compared and written."""
-import textwrap
-from collections.abc import Callable, Sequence
+"""Makes the pages that are printed from the source and kept nowhere, with an index, in out/pages:
+the whole book of the theorem, the calls of all crates, all definitions, and all wrong bodies.
+
+With `--check` it writes nothing. In both ways it finds dead links among these pages and from them;
+the last line has their number, and the status is 1 where there is one."""
+import os
+import re
+from collections.abc import Iterator, Sequence
 from pathlib import Path
 
-from gate import children
+from gate import book, calls, definitions, links, wrong_bodies
 from gate.words import reader
 
+FOLDER, DOCS = Path("out/pages"), Path("docs")
+INDEX = """# Printed pages
 
-def filled(text: str, sign: str = "") -> str:
-    """A paragraph or, behind a sign, an item of a list, in lines of at most 100 columns."""
-    return textwrap.fill(
-        text,
-        100,
-        initial_indent=sign,
-        subsequent_indent=" " * len(sign),
-        break_long_words=False,
-        break_on_hyphens=False,
-    )
+`python3 .ci/gate pages` has made these pages from the source. They are up to date if it was run
+since.
 
+- [The whole book](book.md): each definition that the theorem cites, and the contracts of the calls
+  that have it as a clause. [Its first part](../docs/book.md) is kept in the repository.
+- [Calls](calls.md): what each crate offers to those above it, with the clauses of each call
+- [Definitions](definitions.md): all definitions, by crate and file
+- [All wrong bodies](wrong-bodies.md): what each edit breaks, and which clause refuses it
+"""
 
-def files(*patterns: str) -> list[Path]:
-    """The files that git tracks or would track, of these patterns if there are some."""
-    words = ["git", "ls-files", "-co", "--exclude-standard", *patterns]
-    listed = children.output(words).decode().splitlines()
-    return [it for it in map(Path, listed) if it.is_file()]
+# A link to another file, with the anchor there.
+LINK = re.compile(r"(?<=\]\()(?!#|[a-z]+:)([^)#\s]+)")
 
 
-def first_difference(found: str, wanted: str) -> str:
-    """The first line in which two texts differ."""
-    pairs = zip([*found.split("\n"), "(the end)"], [*wanted.split("\n"), "(the end)"])
-    number, (one, other) = next((at, it) for at, it in enumerate(pairs, 1) if it[0] != it[1])
-    return f"line {number} is {one[:120]!r}, and not {other[:120]!r}"
+def moved(text: str, names: Sequence[str]) -> str:
+    """A page that was written as one of docs/, as it stands in out/pages: a link to one of these
+    pages stays, and any other leads to what it meant."""
+
+    def place(found: re.Match[str]) -> str:
+        target = found[1]
+        if target in names:
+            return target
+        return f"../../docs/{target}" if target[:3] != "../" else f"../../{target[3:]}"
+
+    return LINK.sub(place, text)
 
 
-def settle(
-    module: str, doc: str | None, words: Sequence[str], made: Callable[[], dict[str, str]]
-) -> int:
-    """The status of a check of files whose texts are made from others: compares them where the word
-    is `--check`, and writes them where it is `--write`. One of the two has to be there."""
-    words_of = reader(module, doc)
-    way = words_of.add_mutually_exclusive_group(required=True)
-    way.add_argument("--check", action="store_true", help="compare; the status is 1 if one differs")
-    way.add_argument("--write", action="store_true", help="write what differs")
-    given, name = words_of.parse_args(words), module.rpartition(".")[2]
-    texts = made()
-    old = {path: Path(path).read_text(encoding="utf-8") for path in texts}
-    others = [path for path in texts if old[path] != texts[path]]
-    for path in others:
-        if given.write:
-            Path(path).write_text(texts[path], encoding="utf-8")
-            print(f"{name}: {path} is written")
-        else:
-            print(f"{name}: {path}: {first_difference(old[path], texts[path])}")
-            print(f"{name}: if the source is right, `python3 .ci/gate {name} --write` writes it")
-    print(f"{name}: {len(texts)} compared, {len(others)} different")
-    return 1 if others and given.check else 0
+def made() -> dict[str, str]:
+    """The pages by their names."""
+    texts = {
+        "README.md": INDEX,
+        "book.md": book.whole(),
+        "calls.md": calls.page(),
+        "definitions.md": definitions.page(),
+        "wrong-bodies.md": wrong_bodies.page(),
+    }
+    return {name: moved(text, [*texts]) for name, text in texts.items()}
+
+
+def dead(texts: dict[str, str]) -> Iterator[tuple[str, str, bool]]:
+    """The links of these pages: the page, the target, and whether it is dead."""
+    places = {name: Path(os.path.abspath(FOLDER / name)) for name in texts}
+    known = {places[name]: links.anchors(text) for name, text in texts.items()}
+    for name, text in texts.items():
+        for target in links.links(text):
+            if not links.ELSEWHERE.match(target):
+                yield name, target, links.is_dead(FOLDER / name, target, known)
+
+
+def main(words: Sequence[str]) -> int:
+    words_of = reader(__name__, __doc__)
+    words_of.add_argument("--check", action="store_true", help="write nothing")
+    given, texts = words_of.parse_args(words), made()
+    if not given.check:
+        FOLDER.mkdir(parents=True, exist_ok=True)
+        for name, text in texts.items():
+            (FOLDER / name).write_text(text, encoding="utf-8")
+        print(f"pages: {FOLDER / 'README.md'} is the index")
+    found = [*dead(texts)]
+    gone = [it for it in found if it[2]]
+    for name, target, _ in gone:
+        print(f"pages: {FOLDER / name}: {target}")
+    print(f"pages: {len(texts)} pages, {len(found)} links, {len(gone)} dead")
+    return 1 if gone or not found else 0

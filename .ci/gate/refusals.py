@@ -10,7 +10,7 @@ from pathlib import Path
 
 from gate.fault_tables import TYPES, all_names, alone, numbers_of
 from gate.lines import words_by_type
-from gate.pages import files, filled, settle
+from gate.printing import files, filled, settle
 from gate.surface import Surface
 
 FRONT = """# All refusals

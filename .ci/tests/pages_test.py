@@ -4,7 +4,7 @@ import unittest
 from gate import TOP
 from gate.__main__ import checks
 from gate.figures import is_ratio
-from gate.pages import filled, first_difference
+from gate.printing import filled, first_difference
 from tests.copies import changed, damaged, told
 
 CHECK = "--check"
@@ -24,11 +24,14 @@ DAMAGES = (
      "140 is BadLine and TimeBack"),
     ("refusals", CHECK, "crates/network_core/src/fault.rt", "    TimeBack,", "    BackInTime,",
      "EventFault has no TimeBack"),
-    ("wrong_bodies", CHECK, "docs/wrong-bodies.md", "There are", "These are", "line"),
-    ("wrong_bodies", CHECK, ".ci/gate/wrong_bodies.md", "`skips_authenticator` of", "`skips` of",
+    ("wrong_bodies", "", "docs/wrong-bodies.md", "`skips_authenticator` of", "`skips` of",
      "skips of router_step, which is no edit"),
-    ("calls", CHECK, "docs/calls.md", "## `inbox`", "## `outbox`", "line"),
-    ("definitions", CHECK, "docs/definitions.md", "## `inbox`", "## `outbox`", "line"),
+    ("pages", CHECK, "docs/headline.md", "## Line by line", "## Word by word",
+     "book.md: ../../docs/headline.md#line-by-line"),
+    ("pages", CHECK, "crates/router_step/must-fail/skips_authenticator.edit", "# refused:", "# by:",
+     "does not begin with '# breaks:'"),
+    ("pages", CHECK, "crates/network_core/specs/Ran.antt", "pub record Ran ", "pub record Run ",
+     "Ran is gone"),
     ("crates", CHECK, "README.md", "  json_fields --> refusal\n", "", "README.md: line"),
     ("crates", CHECK, "crates.txt", "\ninbox", "\noutbox", "differ"),
     ("crates", CHECK, "crates/path_report/README.md", "policy: &words", "policies: &words",
@@ -64,8 +67,8 @@ DAMAGES = (
      "is 97, and there are 101"),
     ("links", "", "README.md", "(docs/lines.md)", "(docs/line.md)", "README.md: docs/line.md"),
     ("links", "", "docs/tutorial.md", "(row.svg)", "(rows.svg)", "tutorial.md: rows.svg"),
-    ("links", "", "docs/check-it.md", "book.md#hop_mac-Hmac-hmac_under", "book.md#hmac_under",
-     "check-it.md: book.md#hmac_under"),
+    ("links", "", "docs/headline.md", "book.md#part-0-the-first-hour", "book.md#part-3",
+     "headline.md: book.md#part-3"),
     ("names", "", "docs/headline.md", "`work_lines::work_lines`", "`work_lines::work_rows`",
      "headline.md: work_rows"),
     ("rows", "", "cases/ROWS.md", "`networks: three ASes in a row`", "`networks: three in a row`",
