@@ -1,6 +1,6 @@
-"""Prints what README.md has of the crates: their picture, drawn from crates.txt, and the list of
-their pages by layer, with the titles of these. In the picture an arrow that follows from two others
-is left out, and so are the crates of tests.
+"""Prints docs/crates.md: the list of the crates' pages by layer, with the titles of these, and a
+picture of the crates, drawn from crates.txt. In the picture an arrow that follows from two others is
+left out, and so are the crates of tests.
 
 The status is 1 too where a crate has no page or is in no layer, or where a piece of code that a
 page shows as taken from a file is not in that file."""
@@ -17,9 +17,17 @@ TAKEN = re.compile(r"^From \[`(.*?)`\].*:\n\n```\w+\n(.*?)```$", re.M | re.S)
 CODE = re.compile(r"^```(?!sh|text)\w", re.M)
 TESTS = re.compile(r"conformance_|worked$|refusing$")
 
-# Where README.md has the picture, and the list.
-PICTURE = re.compile(r"^```mermaid\n.*?^```\n", re.M | re.S)
-LIST = re.compile(r"^Texts, streams and lists:\n.*?^For tests:.*?\.\n", re.M | re.S)
+PAGE = "docs/crates.md"
+FRONT = """# The crates
+
+Each crate has a page: what it is, a call, what a contract sees, what is proved and what only a test
+shows. `.ci/gate/crates.py` prints this page from `crates.txt` and from those pages.
+"""
+PICTURE = """## Which uses which
+
+An arrow leads to a crate that is used; arrows that follow from two others are left out, and so are
+the crates of tests.
+"""
 
 LAYERS = {
     "Texts, streams and lists": "refusal json_fields streams separators doubles inbox",
@@ -80,7 +88,7 @@ def pages() -> Iterator[str]:
     """The list of the crates' pages, by layer."""
     for layer, names in LAYERS.items():
         titles = {name: title(name) for name in names.split()}
-        links = {name: f"[`{name}`](crates/{name}/README.md)" for name in titles}
+        links = {name: f"[`{name}`](../crates/{name}/README.md)" for name in titles}
         if layer.endswith("tests"):
             yield filled(f"{layer}: {', '.join(links.values())}.") + "\n"
             continue
@@ -113,18 +121,11 @@ def judge(crates: dict[str, list[str]]) -> None:
 
 
 def document() -> str:
-    """README.md with the picture and the list."""
+    """The whole page."""
     crates = graph()
     judge(crates)
-    readme = Path("README.md").read_text(encoding="utf-8")
-    texts = "\n".join(picture(crates)) + "\n", "\n".join(pages())
-    for pattern, text in zip((PICTURE, LIST), texts):
-        if len(pattern.findall(readme)) != 1:
-            sys.exit("README.md has no picture or no list of the crates to be replaced")
-        [old] = pattern.findall(readme)
-        readme = readme.replace(old, text)
-    return readme
+    return "\n".join([FRONT, *pages(), PICTURE, *picture(crates)]) + "\n"
 
 
 def main(words: Sequence[str]) -> int:
-    return settle(__name__, __doc__, words, lambda: {"README.md": document()})
+    return settle(__name__, __doc__, words, lambda: {PAGE: document()})

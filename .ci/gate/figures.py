@@ -51,15 +51,14 @@ def runs() -> int:
 
 # Rounded figures: the page, a pattern with the figure, and what it counts.
 ROUNDED: tuple[tuple[str, str, Callable[[], int]], ...] = (
-    ("README.md", r"some ([\d,]+) packets in random networks",
+    ("docs/gate.md", r"some ([\d,]+) packets in random networks",
      lambda: theorem.NETWORKS * theorem.PACKETS),
-    ("README.md", r"some (\d+) faulty inputs", lambda: rows_of("cases/explain/faults.jsonl")),
-    ("README.md", r"some (\w+) kinds of input", lambda: len(WORKS)),
+    ("docs/gate.md", r"some (\d+) faulty inputs", lambda: rows_of("cases/explain/faults.jsonl")),
+    ("docs/gate.md", r"some (\w+) kinds of input", lambda: len(WORKS)),
     ("crates/line_faults/README.md", r"some (\d+) faulty\s",
      lambda: rows_of("cases/explain/faults.jsonl")),
     ("docs/gate.md", r"Some ([\d,]+) cases", lambda: len([*cases.cases()])),
     ("docs/gate.md", r"cases stand for ([\d,]+) runs", runs),
-    ("docs/gate.md", r"the ([\d,]+) packets of\s", lambda: theorem.NETWORKS * theorem.PACKETS),
 )
 
 # Exact figures.
