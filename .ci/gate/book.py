@@ -3,171 +3,30 @@ rest by crate, and then how the headline is a clause of the calls that run netwo
 is docs/book.md; `python3 .ci/gate pages` makes a page of the whole."""
 import re
 import sys
+import textwrap
 from collections.abc import Iterator, Sequence
 from pathlib import Path
 from typing import Any
 
+from gate.book_texts import (
+    ALL_PARTS, FIRST_HOUR, FIRST_PART, FRONT, LIBRARY, MOST_OUTSIDE, OUTSIDE,
+)
 from gate.printing import filled, settle
 from gate.specs import WORD, Definition, Module, Specs
 
-MOST_IN_FIRST_HOUR = 350
+MOST_IN_FIRST_HOUR = 520
 ROOT = "network_core/Ran.Ran"
-SENTENCE = """\
-> In every interleaving of beaconing, registration, lookup, sending and router turns, a packet sent
-> on a path that the verifier accepted is refused by no router, passes exactly the hops of that path
-> in order, and is delivered in its destination AS once it has had two router turns per hop field;
-> these hops are a word of the policy's sequence and pass its ACL."""
 
-# What the front says of the parts, on the page of the first one and on that of all.
-FIRST_PART = """\
-This page is the first hour: the promise, the premises, and what an event does, from the top down.
-`python3 .ci/gate pages` makes a page of the whole book, `out/pages/book.md`: the rest of what the
-theorem cites, crate by crate, and the contracts of the two calls that run networks. A definition
-with a link is on this page; one without is on that one.
+# The types of refusals that part 0 names: docs/refusals.md lists what each says.
+REFUSALS = re.compile(r"(?:Event|Verify|Option|Topology|Header)Fault|Refusal")
 
-`.ci/gate/book.py` prints this page from the crates, without imports; the gate checks that it is up
-to date. Nobody has to believe what is in `proofs/`. [headline.md](headline.md) says the same in
-words.
-"""
-ALL_PARTS = """\
-- [Part 0](#part-0-the-first-hour) is for the first hour, and is read from the top down: the
-  promise, the premises, and what an event does.
-- [Part 1](#part-1-the-rest-of-the-theorem) has the rest of what the theorem cites, crate by crate,
-  each definition after those that it cites.
-- [Part 2](#part-2-how-the-theorem-is-a-clause-of-calls) has the contracts of the two calls that run
-  networks, and what those cite beside the theorem.
-
-Nobody has to believe what is in `proofs/`. [headline.md](headline.md) says the same in words.
-"""
-FRONT = f"""# The book of the headline
-
-What a reader has to believe to believe this sentence about a run of `scionet`, which is one process
-where turns are events of a list, and no more:
-
-{SENTENCE}
-
-PARTS
-## How to read it
-
-Above each definition stand its name and links to what it cites. A definition says what it takes and
-gives, and then what it is, case by case; lines that begin with `--` are comments. `abbrev` and
-`unfoldable` tell the prover when to look inside, and say nothing to a reader; `pub` lets other
-files cite it. A `record` holds if each of its fields does; a field that is a value says that there
-is one. `data` lists the forms of a value. What holds has a name, as values have: where `forwarded`
-says that something holds for each `k`, `forwarded k` is that, with its fields. The contract of a
-call is its `ensures`: what holds of `result` whenever it returns; `x.old` and `x.new` are an
-argument before and after the call, and `x.now` is what is lent to it.
-
-A definition sees a value of the code as what it holds. Numbers of each size, addresses (`IsdAs`)
-and numbers of interfaces (`IfId`) are numbers; arrays, slices and vectors are lists, and bytes are
-a list of numbers. `Keys` is the list of the keys that an AS accepts, the one in use first, each a
-list of bytes. A struct is the record of its fields, and an enum has its variants; a `Topology` is
-its `Network`, and a `Net` its `NetValue` (`ghost view` in their declarations). A constructor that
-several types have is printed with its type, as `LinkKind.Core`. An argument in braces is left out
-where a word is used.
-
-The words and signs of the toolchain's library and logic are not defined here; this table says what
-they mean. In a crate, `rt lemma slice_get` prints the definition of such a word.
-"""
-
-# The words of the library and the logic, as a reader meets them, and what they mean.
-LIBRARY = (
-    ("ℕ Bool true false", "the natural numbers; the two truth values"),
-    ("Type", "what is true or not: `Type 0` is the type of statements, and of types"),
-    ("→ λ", "from premises to a conclusion, or from an argument to a value; `λ x. b` is the"
-     " function that gives `b` for `x`"),
-    ("× ⊎ ↔ ¬", "both statements; one of them; each if the other; not this one. `(x : A) × B` says"
-     " that `B` holds for some `x`, and `(x : A) → B` that it does for each"),
-    ("≡ ≢", "the two are equal; they differ"),
-    ("⊥ ⊤ Unit tt", "what never holds; what always does (`Unit {0}` too, and `tt` is its value)"),
-    ("x.0 x.1", "the first and the second part of a pair"),
-    ("record with let in do ←", "`record { f = v }` is a record of these fields, `record x { f = v"
-     " }` is `x` with `f` changed; `let` names a value; `do` goes on with the value of each step"
-     " (`x ← step`), up to the first refusal, and is short for `>>=`"),
-    ("+ - * / % ^ suc zero min", "of numbers; `-` ends at 0, `/` and `%` are quotient and rest,"
-     " `suc n` is `n + 1`"),
-    ("< ≤ nat_lt nat_le nat_cmp Ordering Less ordering_then", "comparisons, as statements, as tests"
-     " and with the result less, equal or greater; the second result, if the first is equal"),
-    ("== beq && || not if then else", "equality as a test, and, or, not; a choice by a test"),
-    ("bit_and bit_xor", "the bits that both have; exclusive or"),
-    ("w16 w32 w64 to_be_bytes from_be_bytes", "numbers of 16, 32 and 64 bits as bytes, the highest"
-     " first, and back"),
-    ("List [] ∷ ++ length", "lists: the empty one; an item before a list; one list before another;"
-     " how long it is"),
-    ("map filter filter_map flat_map fold", "each item changed; those that pass a test; those for"
-     " which something is given; the lists of all items joined; all items one after the other"),
-    ("take drop reverse replicate", "the first `n` items; all but these; backwards; one item `n`"
-     " times"),
-    ("slice_get slice_index slice_index_or slice_set", "item number `i`, counted from 0: if there"
-     " is one; or else 0; or else this one; the list with this item there"),
-    ("find list_any list_all count_by sum_by", "the first item that passes a test; whether some"
-     " does; whether all do; how many do; the sum of a number of each item"),
-    ("before_first after_first join_by", "what stands before, or after, the first item that passes"
-     " a test; lists joined with something between them"),
-    ("All AllByRecursion Any AllPairs Contains", "the statement holds of each item; of some item;"
-     " of each item and each later one; the item is in the list"),
-    ("Option Some None is_none", "a value or none; whether there is none"),
-    ("option_map option_map_or option_and_then unwrap_or ok_or", "a function of the value, if there"
-     " is one; or else this; which may give none; the value or else this; or else a refusal"),
-    ("Result Ok Err IsOk is_err IfOk IfErr result_ok result_unwrap_or", "a value or a refusal; it"
-     " is a value; whether it is a refusal; the statement holds of the value, or of the refusal, if"
-     " it is one; the value as an option; the value or else this"),
-    ("codes chars is_utf8 bytes_eq", "the bytes of a text that is written out; the characters of"
-     " bytes; whether bytes are UTF-8; whether two lists of bytes are the same"),
-    ("decimal digits digit_value digits_value", "a number in decimal digits, or in those of a base;"
-     " the value of a digit, and of digits"),
-    ("pointwise slice_cmp", "a test of each pair of items of two lists that are equally long; which"
-     " list comes first, by the first items that differ"),
-    ("Data Items item no_items get as_str as_array as_bool as_number as_u64", "values of JSON, and"
-     " lists of them; a member of an object (the last, if two have one name); what a value is, if"
-     " it is that"),
-    ("read decode_of sha256", "the JSON value of a text, the bytes that hexadecimal digits spell,"
-     " and SHA-256, as the kit's crates define them"),
-    ("Consumes Appends IsAtEnd Keeps ReadConsumes WriteAppends ReadsAtMost WritesAtMost", "of bytes"
-     " that a stream makes known: these are its first ones, and are gone after it; these follow"
-     " those that it held; none is left; they are as before; what one read or write did to them,"
-     " and how many it may take. **Of a stream whose bytes aren't known they say nothing**"),
+# How values of the code are seen in clauses.
+VIEWS = (
+    ("network_core", "net", "Net"), ("network_core", "packet", "Packet"),
+    ("network_core", "packet", "Sent"), ("forwarding", "in_flight", "PacketInFlight"),
+    ("scion_topology", "topology", "Topology"),
 )
-
-# What is read in the first hour: some words, and the definitions that follow them.
-FIRST_HOUR = (
-    (
-        "Words of SCION (AS, beacon, segment, hop field) are explained in [the"
-        " tutorial](tutorial.md). `scionet run` calls [`run_lines`](#event_lines-run_lines), which"
-        " promises `Runs`: if it succeeds, what was written (`went`) are the replies to all lines; the"
-        " first line is a topology, and the later ones are a run (`Ran`) of their events. After a fault"
-        " the same holds of the lines that were answered, which `Ends` says fault by fault.",
-        "event_lines/Run.Runs event_lines/Run.Listens event_lines/Run.Ends event_lines/Run.Wrote"
-        " event_lines/Answers.RepliesToInput event_lines/Answers.Begins"
-        " event_lines/Answers.AreRun network_core/Ran.Ran",
-    ),
-    (
-        "A run has a history: what happened, event by event. What is promised of it is in `IsRun`,"
-        " and of a packet in `Headline`. It is delivered in its destination AS, since it has then"
-        " passed its whole walk (`whole`), which ends there (the rule of `Destination` in [`Keeps`]"
-        "(#path_verifier-Accepted-Keeps)). [headline.md](headline.md#line-by-line) goes through"
-        " the sentence word by word.",
-        "network_core/Ran.IsRun network_core/History.Occurs network_core/History.net_at"
-        " network_core/Headline.Headline network_core/Delivery.IsForwarded"
-        " path_verifier/Walk.walk_of forwarding/Journey.turns_for",
-    ),
-    (
-        "These are the premises, for the first `k` events; what happens later doesn't matter. Here"
-        " `sent` is the number of the Send event, `p` that of its packet, and an event is done if it"
-        " was not refused (`IsDone`). An expiry is counted in half seconds, and the network's `moment`"
-        " in seconds.",
-        "network_core/Headline.Undisturbed network_core/Headline.Kept"
-        " network_core/History.IssuedIn",
-    ),
-    (
-        "And this is what an event does. The path of a Send is one that the verifier accepts; by its"
-        " route it is a path of an answer, one that is given, or the way back of a delivered packet,"
-        " which is the event `back` of a line. The `beta` of an Originate is its beacon's first"
-        " accumulator.",
-        "network_core/History.IsHistory network_core/Step.Step network_core/Event.EventValue"
-        " network_core/Step.Leads network_core/Step.Sends path_verifier/Accepted.IsAccepted",
-    ),
-)
+VIEW = r"^impl Model for NAME \{\n(?:.*\n)*?    ghost view = ((?:.*\n)*?.*\};)$"
 
 # The calls that have the theorem as a clause, and what their contracts speak of: items of the code.
 CALLS = (
@@ -177,20 +36,18 @@ CALLS = (
 )
 
 
-# A link to a definition.
-LINK = re.compile(r"\[([^]]*)\]\(#([\w-]+)\)")
-
 # The crates of a part: the name of one, its types, and its files with their definitions.
 Page = tuple[str, list[Definition], list[tuple[Module, list[Definition]]]]
 
 
 class Book:
-    """The definitions of the three parts, and the text."""
+    """The definitions of the parts, and the text: those of the first hour, its words, the rest of
+    the theorem, and what the calls cite beside it."""
 
     def __init__(self, top: Path) -> None:
         self.specs = Specs(top)
-        places = " ".join(text for _, text in FIRST_HOUR).split()
-        self.first = [self.specs.definition(it) for it in places]
+        self.first = [self.specs.definition(it) for _, rows in FIRST_HOUR for it, _ in rows]
+        self.outside = {self.specs.definition(it).key: said for it, said in OUTSIDE}
         self.calls = [
             self.specs.item(crate, file, name)
             for crate, file, names in CALLS
@@ -200,17 +57,37 @@ class Book:
         everything = self.specs.closure([*theorem, *self.first, *self.calls])
         own = {it.key for it in [*self.first, *theorem]}
         taken = {it.key for it in [*self.first, *self.calls]}
+        self.words_of_first = self.reached()
+        near = taken | {it.key for it in self.words_of_first}
         self.parts = (
             self.first,
-            [it for it in theorem if it.key not in taken],
-            [it for it in everything if it.key not in own | taken],
+            self.words_of_first,
+            [it for it in theorem if it.key not in near],
+            [it for it in everything if it.key not in own | near],
         )
         self.printed = [it for part in self.parts for it in part] + self.calls
         self.library = {word for it in self.printed for word in self.specs.library(it)}
         self.signs = self.signs_in(self.printed)
         self.types = {it.key[2]: it for it in self.printed if it.variants or not it.key[1]}
-        self.on_page = {it.key for it in self.printed}
+        self.here = {it.anchor for it in self.printed}
         self.shared, self.paired = self.shared_constructors()
+
+    def is_left_out(self, one: Definition) -> bool:
+        """Whether part 0 does not have this: a sentence or another page says what it is."""
+        is_refusal = not one.key[1] and REFUSALS.fullmatch(one.key[2]) is not None
+        return is_refusal or one.key in self.outside
+
+    def reached(self) -> list[Definition]:
+        """What the definitions of the first hour cite, and what these do, but for what is left
+        out."""
+        first, found = {it.key for it in self.first}, dict[tuple[str, str, str], Definition]()
+        todo = [*self.first]
+        while todo:
+            for _, it in self.specs.cited(todo.pop()):
+                if it.key not in first and it.key not in found and not self.is_left_out(it):
+                    found[it.key] = it
+                    todo.append(it)
+        return [*found.values()]
 
     def shared_constructors(self) -> tuple[set[str], set[str]]:
         """The constructors that several types have, where a type of the code and its value are
@@ -268,9 +145,14 @@ class Book:
             for word, it in self.cited(one):
                 words = found.setdefault(it.anchor, {})
                 words[f"`{self.shown(one, word).replace('◌', '')}`"] = None
-        here = {it.anchor for it in self.printed if it.key in self.on_page}
         pairs = [(" ".join(words), it) for it, words in found.items() if it not in own]
-        return ", ".join(f"[{words}](#{it})" if it in here else words for words, it in pairs)
+        return ", ".join(f"[{words}]({self.place(anchor)})" for words, anchor in pairs)
+
+    def place(self, anchor: str) -> str:
+        """Where a definition is: on the page, or where the page of the first hour leaves it."""
+        name = anchor.rpartition("-")[2]
+        is_elsewhere = anchor not in self.here and REFUSALS.fullmatch(name)
+        return f"refusals.md#{anchor.lower()}" if is_elsewhere else f"#{anchor}"
 
     def entry(self, *group: Definition) -> Iterator[str]:
         """Definitions that stand together, with their anchors and their links."""
@@ -285,11 +167,43 @@ class Book:
 
     def first_hour(self) -> Iterator[str]:
         yield "## Part 0: the first hour\n"
-        here = {it.anchor for it in self.printed if it.key in self.on_page}
-        for words, places in FIRST_HOUR:
-            yield filled(LINK.sub(lambda it: it[0] if it[2] in here else it[1], words)) + "\n"
-            for place in places.split():
-                yield from self.entry(self.specs.definition(place))
+        for words, rows in FIRST_HOUR:
+            yield filled(words) + "\n"
+            for place, meaning in rows:
+                anchors, *lines = self.entry(self.specs.definition(place))
+                yield f"{anchors}\n\n{meaning}"
+                yield from lines
+
+    def views(self) -> Iterator[str]:
+        """How values of the code are seen."""
+        yield VIEWS_HEAD
+        yield "```rust"
+        for crate, file, name in VIEWS:
+            text = (self.specs.top / "crates" / crate / "src" / f"{file}.rt").read_text()
+            found = re.search(VIEW.replace("NAME", name), text, re.M)
+            if found is None:
+                sys.exit(f"{crate}/src/{file}.rt has no view of {name}")
+            yield f"// {name} of {crate}\n{textwrap.dedent('    ' + found[1])}"
+        yield "```\n"
+
+    def left_to_sentences(self) -> Iterator[str]:
+        """The table of what part 0 names and does not have."""
+        yield LEFT_HEAD
+        yield "| definition | what it says |\n|---|---|"
+        for key, meaning in self.outside.items():
+            crate, module, name = key
+            path = f"../crates/{crate}/specs/{module.replace('.', '/')}.antt"
+            anchor = self.specs.modules[crate, module].named[name].anchor
+            yield f'| <a id="{anchor}"></a>[`{name}`]({path}) of `{crate}` | {meaning} |'
+        yield ""
+
+    def not_in_first(self) -> list[str]:
+        """What part 0 names, does not have, and leaves to no sentence; and sentences about what it
+        does not name."""
+        own = {it.key for it in [*self.first, *self.words_of_first]}
+        named = {it.key for one in self.parts[0] + self.parts[1] for _, it in self.cited(one)}
+        refusals = {it for it in named if not it[1] and REFUSALS.fullmatch(it[2])}
+        return ["/".join(it) for it in sorted((named - own - refusals) ^ self.outside.keys())]
 
     def files(self, crate: str, part: list[Definition]) -> list[str]:
         """The files of a crate that have definitions of this part, each behind those that it
@@ -339,8 +253,8 @@ class Book:
 
     def cited_too_early(self) -> Iterator[tuple[str, str, str]]:
         """The definitions of parts 1 and 2 that stand behind one that cites them."""
-        read = {it.key for it in self.first}
-        for part in self.parts[1:]:
+        read = {it.key for it in [*self.first, *self.words_of_first]} | self.outside.keys()
+        for part in self.parts[2:]:
             for _, items, files in self.pages(part):
                 read |= {it.key for it in items}
                 for one in (it for _, own in files for it in own):
@@ -352,7 +266,8 @@ class Book:
         """How many definitions each part has, and how many lines they have."""
         yield "| part | definitions | lines | with comments |\n|---|---|---|---|"
         named = [[it for it in part if it.key[1]] for part in self.parts]
-        for name, part in [*zip("012", named), ("all", [it for part in named for it in part])]:
+        names = ("0", "0, its words", "1", "2")
+        for name, part in [*zip(names, named), ("all", [it for part in named for it in part])]:
             lines = sum(len(it.lines) for it in part)
             comments = sum(len(it.comment) for it in part)
             yield f"| {name} | {len(part)} | {lines} | {lines + comments} |"
@@ -381,19 +296,23 @@ class Book:
 
     def first_page(self) -> str:
         """The page of the first hour."""
-        self.on_page = {it.key for it in self.first}
+        own = [*self.first, *self.words_of_first]
+        self.here = {it.anchor for it in own}
         first = "\n".join(self.first_hour())
         if (count := len(first.splitlines())) > MOST_IN_FIRST_HOUR:
             sys.exit(f"part 0 of the book has {count} lines, more than {MOST_IN_FIRST_HOUR}")
-        words = self.words(self.signs_in(self.first))
-        return "\n".join([FRONT.replace("PARTS", FIRST_PART), *words, first]).rstrip("\n") + "\n"
+        front = [FRONT.replace("PARTS", FIRST_PART), *self.words(self.signs_in(own)), first]
+        rest = [*self.left_to_sentences(), *self.views(), WORDS_HEAD, *self.chapter(self.parts[1])]
+        return "\n".join([*front, *rest]).rstrip("\n") + "\n"
 
     def text(self) -> str:
         """The page of all parts."""
-        self.on_page = {it.key for it in self.printed}
-        two = [REST, *self.chapter(self.parts[1]), CLAUSES, *self.contracts(), BESIDE]
+        self.here = {it.anchor for it in self.printed}
         front = [FRONT.replace("PARTS", ALL_PARTS), *self.words(self.signs), *self.table()]
-        return "\n".join([*front, *self.first_hour(), *two, *self.chapter(self.parts[2])])
+        zero = [*self.first_hour(), *self.views(), WORDS_HEAD, *self.chapter(self.parts[1])]
+        one = [REST, *self.chapter(self.parts[2])]
+        two = [CLAUSES, *self.contracts(), BESIDE, *self.chapter(self.parts[3])]
+        return "\n".join([*front, *zero, *one, *two])
 
 
 def together(module: Module, own: list[Definition]) -> list[list[Definition]]:
@@ -408,6 +327,21 @@ def together(module: Module, own: list[Definition]) -> list[list[Definition]]:
     return groups
 
 
+WORDS_HEAD = """## The words of part 0
+
+What the first hour cites, crate by crate, to look up.
+"""
+LEFT_HEAD = """## What part 0 leaves to a sentence
+
+The definitions of this page name these ten, and the page does not have them. Each name is a link to
+its file. The types of refusals are in [refusals.md](refusals.md).
+"""
+VIEWS_HEAD = """## How the code's values are seen
+
+Clauses of calls speak of values of the code. These are the views by which `run` of `network_core`,
+whose clause is `Ran`, and the calls on its network and its packets are read; `stored_way` is the
+`Way` of what is stored:
+"""
 REST = "## Part 1: the rest of the theorem\n"
 CLAUSES = """## Part 2: how the theorem is a clause of calls
 
@@ -424,6 +358,10 @@ def in_order() -> Book:
     book = Book(Path("."))
     for key in book.cited_too_early():
         sys.exit(f"the book cites {'/'.join(key)} before it says what that is")
+    if names := book.not_in_first():
+        sys.exit(f"part 0 of the book names and does not have, or the reverse: {' '.join(names)}")
+    if len(OUTSIDE) > MOST_OUTSIDE:
+        sys.exit(f"part 0 of the book leaves {len(OUTSIDE)} to a sentence, above {MOST_OUTSIDE}")
     if words := book.unexplained():
         sys.exit(f"the book's table of words lacks {' '.join(words)}")
     return book

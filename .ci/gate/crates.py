@@ -1,6 +1,6 @@
 """Prints docs/crates.md: the list of the crates' pages by layer, with the titles of these, and a
-picture of the crates, drawn from crates.txt. In the picture an arrow that follows from two others is
-left out, and so are the crates of tests.
+picture of the crates, drawn from crates.txt. In the picture an arrow that follows from two others
+is left out, and so are the crates of tests.
 
 The status is 1 too where a crate has no page or is in no layer, or where a piece of code that a
 page shows as taken from a file is not in that file."""

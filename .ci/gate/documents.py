@@ -51,8 +51,8 @@ def can_run(commands: str, machine: Machine) -> bool:
 
 
 def printed(shell: str, asked: Iterable[str], programs: Iterable[Path]) -> list[str]:
-    """What the shell prints at each of these blocks, one after the other, with the programs of these
-    folders; behind a block that leaves it in another folder it says so."""
+    """What the shell prints at each of these blocks, one after the other, with the programs of
+    these folders; behind a block that leaves it in another folder it says so."""
     stays = f"[ \"$PWD\" = '{Path.cwd()}' ] || echo 'the shell is in another folder'"
     script = "".join(f"{{ {it}}} 2>&1 < /dev/null\n{stays}\necho '{MARK}'\n" for it in asked)
     path = os.pathsep.join([*(str(it.resolve()) for it in programs), os.environ["PATH"]])

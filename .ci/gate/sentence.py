@@ -3,7 +3,7 @@ sentence, and each once. It prints how many quote it; the status is 1 where one 
 from collections.abc import Sequence
 from pathlib import Path
 
-from gate.book import SENTENCE
+from gate.book_texts import SENTENCE
 from gate.words import reader
 
 PAGES = ("README.md", "docs/headline.md", "docs/book.md")

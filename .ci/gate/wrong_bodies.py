@@ -2,9 +2,9 @@
 edits there are, and how many the page names; the status is 1 where one of these is gone.
 
 The page of all edits (`python3 .ci/gate pages`) is printed from their heads, and stops at one that
-has no such head: each begins with `# breaks:`, what it breaks, and `# refused:`, by which clause; an
-edit that turns a statement and no code begins with `# states:`. What stands beside the tables is in
-crates/NAME/must-fail/NOTES.md."""
+has no such head: each begins with `# breaks:`, what it breaks, and `# refused:`, by which clause;
+an edit that turns a statement and no code begins with `# states:`. What stands beside the tables is
+in crates/NAME/must-fail/NOTES.md."""
 import re
 import sys
 from collections.abc import Iterable, Iterator, Sequence
@@ -18,9 +18,9 @@ NAMED = re.compile(r"(`\w+`(?:(?:, | and )`\w+`)*) of `(\w+)`")
 BY_HAND = Path("docs/wrong-bodies.md")
 FRONT = """# All wrong bodies
 
-What each edit breaks, and which clause refuses it, crate by crate.
-[Wrong bodies](../docs/wrong-bodies.md) has those that a network of routers must not have. The text of
-each edit is `crates/NAME/must-fail/EDIT.edit`.
+What each edit breaks, and which clause refuses it, crate by crate. The text of each edit is
+`crates/NAME/must-fail/EDIT.edit`. [Wrong bodies](../docs/wrong-bodies.md) has those that a network
+of routers must not have.
 """
 STATEMENTS = """## False statements
 
