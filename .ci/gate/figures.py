@@ -4,13 +4,14 @@ is not measured again. The last line has the numbers of figures and of wrong one
 where one is wrong."""
 import re
 from collections.abc import Callable, Iterator, Sequence
+from functools import partial
 from pathlib import Path
 
 from gate import beaconing, cases, theorem
 from gate.words import reader
 from gate.works import WORKS
 
-NUMBER_WORDS = {"eight": 8, "nine": 9, "ten": 10, "thirteen": 13, "sixty": 60, "seventy": 70}
+NUMBER_WORDS = {"five": 5, "eight": 8, "nine": 9, "ten": 10, "thirteen": 13, "sixty": 60, "seventy": 70}
 
 # How far a rounded figure, as 'some 120', may be from what is there.
 NEARLY = 0.1
@@ -49,6 +50,14 @@ def runs() -> int:
     return sum(1 for _, case in cases.cases() for _ in cases.runs(case))
 
 
+def lines_of(crate: str) -> int:
+    """The lines of a crate's code."""
+    return sum(map(rows_of, map(str, Path("crates", crate, "src").glob("*.rt"))))
+
+
+# The crates of which docs/DECISIONS.md says how large they are.
+LARGE = ("combinator", "policy_expr", "line_faults", "scion_topology", "network_core")
+
 # Rounded figures: the page, a pattern with the figure, and what it counts.
 ROUNDED: tuple[tuple[str, str, Callable[[], int]], ...] = (
     ("docs/gate.md", r"some ([\d,]+) packets in random networks",
@@ -58,6 +67,8 @@ ROUNDED: tuple[tuple[str, str, Callable[[], int]], ...] = (
     ("crates/line_faults/README.md", r"some (\d+) faulty\s",
      lambda: rows_of("cases/explain/faults.jsonl")),
     ("docs/gate.md", r"Some ([\d,]+) cases", lambda: len([*cases.cases()])),
+    *(("docs/DECISIONS.md", rf"`{it}`(?: has about)? (\d,\d\d\d),\s", partial(lines_of, it))
+      for it in LARGE),
     ("docs/gate.md", r"cases stand for ([\d,]+) runs", runs),
 )
 
@@ -69,9 +80,9 @@ EXACT: tuple[tuple[str, str, Callable[[], int]], ...] = (
     ("crates/path_report/README.md", r"the first (\w+) of the\s+links",
      lambda: limit("path_report", "MAX_RANKED_LINKS")),
     ("docs/check-it.md", r"tries the (\w+) edits that",
-     lambda: len([*Path("crates/router_step/must-fail").glob("*.edit")])),
-    ("docs/check-it.md", r"src/checks\.rt:(\d+):1",
-     lambda: first_line("crates/router_step/src/checks.rt", "pass")),
+     lambda: len([*Path("crates/hop_mac/must-fail").glob("*.edit")])),
+    ("docs/check-it.md", r"src/hop\.rt:(\d+):1",
+     lambda: first_line("crates/hop_mac/src/hop.rt", "hop_mac")),
     ("docs/lines.md", r"more than ([\d,]+); or there", lambda: limit("scion_topology", "MAX_ASES")),
     ("docs/lines.md", r"more than ([\d,]+) links", lambda: limit("scion_topology", "MAX_LINKS")),
     ("docs/lines.md", r"at most ([\d,]+) bytes", lambda: limit("streams", "MAX_INPUT_LEN")),
