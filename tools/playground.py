@@ -40,6 +40,10 @@ from playground_requests import (  # noqa: E402
 ROOT = Path(__file__).resolve().parent.parent
 PAGE = Path(__file__).resolve().with_suffix(".html")
 
+# What the page says of the program, and what it says if its `--version` calls it unproved.
+PROVED = "of the proved program <code>scionet run</code>"
+UNPROVED = "of <code>scionet run</code>, built here <b>without a proof</b>"
+
 # How long a request may be.
 BODY_BYTES = 8 << 20
 
@@ -67,6 +71,12 @@ class Programs:
             if path.is_file():
                 return str(path.resolve())
         raise FileNotFoundError(f"{folder} has no program {name}: README.md says how to build it")
+
+    def is_proved(self):
+        """Whether the program does not say of itself that it is unproved."""
+        pipe = subprocess.PIPE
+        done = subprocess.run([self.run, "--version"], stdout=pipe, stderr=pipe, timeout=10)
+        return b"unproved" not in done.stdout + done.stderr
 
 
 class Child:
@@ -279,8 +289,8 @@ class Playground:
 class Document:
     """The page, and the policy by which a browser loads nothing else and runs no other script."""
 
-    def __init__(self, path):
-        text = path.read_text()
+    def __init__(self, path, is_proved=True):
+        text = path.read_text() if is_proved else path.read_text().replace(PROVED, UNPROVED)
         self.bytes = text.encode()
         script, style = (self.digest(text, name) for name in ("script", "style"))
         self.policy = (
@@ -408,9 +418,9 @@ class Server(http.server.ThreadingHTTPServer):
         self.playground.processes.close()
 
 
-def serve(playground, is_opened):
-    """Serves a playground until an interrupt."""
-    with Server(playground, Document(PAGE)) as server:
+def serve(playground, document, is_opened):
+    """Serves a playground with this page until an interrupt."""
+    with Server(playground, document) as server:
         print(f"playground: {server.guard.address()}", flush=True)
         if is_opened:
             webbrowser.open(server.guard.address())
@@ -427,7 +437,9 @@ def main():
     signal.signal(signal.SIGTERM, signal.default_int_handler)
     processes = Processes()
     try:
-        serve(Playground(processes, Programs(words.programs), ROOT), words.open)
+        programs = Programs(words.programs)
+        document = Document(PAGE, programs.is_proved())
+        serve(Playground(processes, programs, ROOT), document, words.open)
     except OSError as error:
         sys.exit(f"playground: {error}")
     except KeyboardInterrupt:

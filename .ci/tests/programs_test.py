@@ -1,8 +1,12 @@
 """What the checks over built programs say of answers that are damaged."""
+import importlib
 import shutil
 import subprocess
+import sys
+import tempfile
 import unittest
 from pathlib import Path
+from types import ModuleType
 from unittest import mock
 
 from gate import TOP, explain, theorem
@@ -104,7 +108,34 @@ class Pictures(unittest.TestCase):
         self.assertEqual(sorted(found), ["i2 -- j1", "j1 -- i2"])
 
 
+def playground() -> ModuleType:
+    """The server of the page, as a module."""
+    tools = str(TOP / "tools")
+    with mock.patch.object(sys, "path", [tools, *sys.path]):
+        return importlib.import_module("playground")
+
+
 class Playground(unittest.TestCase):
+    def page(self, version: str) -> str:
+        """The page over programs that say this of themselves."""
+        module = playground()
+        with tempfile.TemporaryDirectory() as room:
+            for name in ("scionet", "scionet_view"):
+                program = Path(room, name)
+                program.write_text(f"#!/bin/sh\necho {version} >&2\nexit 2\n", encoding="utf-8")
+                program.chmod(0o755)
+            programs = module.Programs(Path(room))
+            return str(module.Document(module.PAGE, programs.is_proved()).bytes.decode())
+
+    def test_what_is_proved(self) -> None:
+        self.assertIn("of the proved program", self.page("scionet 0.1.0, proved in the logic a"))
+
+    def test_what_is_not_proved(self) -> None:
+        """The page does not call a program proved that calls itself unproved."""
+        page = self.page("scionet 0.1.0, unproved, for the logic a")
+        self.assertNotIn("of the proved program", page)
+        self.assertIn("built here <b>without a proof</b>", page)
+
     def test_checks(self) -> None:
         checks = Checks()
         with mock.patch("builtins.print") as told:
