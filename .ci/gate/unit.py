@@ -11,6 +11,9 @@ from gate.words import reader
 
 FOLDER = TOP / ".ci"
 
+# The seconds after which mypy is killed: it takes a tenth of them on a machine that is not busy.
+SECONDS = 300
+
 
 def typed() -> int:
     """The number of faults that mypy finds, each of which is told."""
@@ -18,7 +21,9 @@ def typed() -> int:
     words += ["--no-error-summary", "--cache-dir", "/dev/null"]
     paths = [str(TOP / it) for it in ("bindings", "bindings/python", "examples/udp")]
     env = {**os.environ, "MYPYPATH": os.pathsep.join(paths)}
-    done = children.run([*words, "gate", "tests"], is_merged=True, cwd=FOLDER, env=env)
+    done = children.run(
+        [*words, "gate", "tests"], seconds=SECONDS, is_merged=True, cwd=FOLDER, env=env
+    )
     lines = done.stdout.decode().splitlines()
     for line in lines:
         print(f"unit: {line}")
