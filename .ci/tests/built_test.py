@@ -7,6 +7,7 @@ from unittest import mock
 
 from gate import built, run
 from gate.built import Built
+from gate.minutes import Minutes
 from gate.run import BUILDS, Step, run_all
 
 PROGRAM, TESTS = Path("crates/a/out/a"), Path("crates/a/out/a_tests")
@@ -72,13 +73,16 @@ class Executables(unittest.TestCase):
 
     def test_steps(self) -> None:
         """A step behind `rt ci` is not run over another program."""
-        def ran(step: Step) -> tuple[str, str]:
+        def followed(step: Step) -> tuple[str, str]:
             put(PROGRAM, step.name, 1)
             return "", ""
 
-        with mock.patch.object(run, "ran", ran):
-            line, status = run_all([Step("book"), Step(BUILDS, ("ci",))], False)
+        def ended(*steps: Step) -> tuple[str, int]:
+            return run_all(steps, Minutes(os.getpid()), is_strict=False)
+
+        with mock.patch.object(run, "followed", followed):
+            line, status = ended(Step("book"), Step(BUILDS, ("ci",)))
             self.assertEqual((line, status), ("gate: 2 steps, 0 failed", 0))
-            line, status = run_all([Step(BUILDS, ("ci",)), Step("a"), Step("b")], False)
+            line, status = ended(Step(BUILDS, ("ci",)), Step("a"), Step("b"))
         self.assertEqual(status, 1)
         self.assertIn(f"step 3 of 3, b: {PROGRAM} is not what rt ci has built", line)
