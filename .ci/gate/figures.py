@@ -1,7 +1,7 @@
 """Holds figures of the pages to what they count: numbers of cases, works, networks and limits; the
-ratios and the bounds of docs/speed.md; and the rows and the sums of docs/gate.md. What was measured
-is not measured again. The last line has the numbers of figures and of wrong ones; the status is 1
-where one is wrong."""
+ratios and the bounds of docs/speed.md; the rows and the sums of docs/gate.md; and how long README
+and the pages of docs may be. What was measured is not measured again. The last line has the numbers
+of figures and of wrong ones; the status is 1 where one is wrong."""
 import re
 from collections.abc import Callable, Iterator, Sequence
 from functools import partial
@@ -11,10 +11,15 @@ from gate import beaconing, cases, theorem
 from gate.words import reader
 from gate.works import WORKS
 
-NUMBER_WORDS = {"five": 5, "eight": 8, "nine": 9, "ten": 10, "thirteen": 13, "sixty": 60, "seventy": 70}
+NUMBER_WORDS = {
+    "five": 5, "eight": 8, "nine": 9, "ten": 10, "thirteen": 13, "sixty": 60, "seventy": 70,
+}
 
 # How far a rounded figure, as 'some 120', may be from what is there.
 NEARLY = 0.1
+
+# The most words of README.md, and the most bytes of all pages of docs/.
+MOST_WORDS, MOST_BYTES = 1_200, 250_000
 
 # A figure, as 1,308 million or 0.0085.
 FIGURE = re.compile(r"^(\d[\d,]*(?:\.\d+)?)( million)?\*?$")
@@ -182,9 +187,18 @@ def costs() -> Iterator[tuple[str, str]]:
             yield what, "" if is_sum else f"is {totals[place]}, not {sum(terms):.1f}"
 
 
+def sizes() -> Iterator[tuple[str, str]]:
+    """What a reader has before them: the words of README, and the bytes of the pages of docs."""
+    count = len(text_of("README.md").split())
+    yield "README.md: words", "" if count <= MOST_WORDS else f"are {count:,}, above {MOST_WORDS:,}"
+    size = sum(it.stat().st_size for it in Path("docs").glob("*.md"))
+    fault = "" if size <= MOST_BYTES else f"are {size:,}, above {MOST_BYTES:,}"
+    yield "docs: bytes of pages", fault
+
+
 def main(words: Sequence[str]) -> int:
     reader(__name__, __doc__).parse_args(words)
-    told = [*counted(), *ratios(text_of("docs/speed.md")), *works(), *costs()]
+    told = [*counted(), *ratios(text_of("docs/speed.md")), *works(), *costs(), *sizes()]
     wrong = [f"{what}: {fault}" for what, fault in told if fault]
     for it in wrong:
         print(f"figures: {it}")

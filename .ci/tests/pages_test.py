@@ -67,6 +67,8 @@ DAMAGES = (
      "| requests of one path | 4,000 |", "requests of one path: has"),
     ("figures", "", "crates/path_report/README.md", "the first ten of the",
      "the first eight of the", "is eight, and there are 10"),
+    ("figures", "", "README.md", "# Sipehuka", f"# Sipehuka {'once more ' * 50}", "above 1,200"),
+    ("figures", "", "docs/questions.md", "# What a", f"# {'What? ' * 500}", "above 250,000"),
     ("figures", "", "docs/lines.md", "more than 4,096 links", "more than 4,069 links", "is 4,069"),
     ("figures", "", "docs/check-it.md", "tries the five edits", "tries the nine edits",
      "is nine, and there are 5"),
