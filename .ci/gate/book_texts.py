@@ -41,15 +41,15 @@ PARTS
 ## How to read it
 
 Above each definition stand its name and links to what it cites. A definition says what it takes and
-gives, and then what it is, case by case; lines that begin with `--` are comments. `abbrev` and
-`unfoldable` tell the prover when to look inside, and say nothing to a reader; `pub` lets other
-files cite it. A `record` holds if each of its fields does; a field that is a value says that there
-is one. `data` lists the forms of a value. What holds has a name, as values have: where `forwarded`
-says that something holds for each `k`, `forwarded k` is that, with its fields. The contract of a
+gives, and then what it is, case by case, of which the first that fits counts; lines that begin with
+`--` are comments. `abbrev` and `unfoldable` tell the prover when to look inside, and say nothing to
+a reader; `pub` lets other files cite it. A `record` holds if each of its fields does; a field that
+is a value says that there is one. `data` lists the forms of a value. A field that holds for each
+`k` can be applied: `forwarded k after quiet` is the `IsForwarded` for this `k`. The contract of a
 call is its `ensures`: what holds of `result` whenever it returns; `x.old` and `x.new` are an
 argument before and after the call, and `x.now` is what is lent to it.
 
-A definition sees a value of the code as what it holds. Numbers of each size, addresses (`IsdAs`)
+In a definition a value of the code is what it contains. Numbers of each size, addresses (`IsdAs`)
 and numbers of interfaces (`IfId`) are numbers; arrays, slices and vectors are lists, and bytes are
 a list of numbers. `Keys` is the list of the keys that an AS accepts, the one in use first, each a
 list of bytes. A struct is the record of its fields, and an enum has its variants; a `Topology` is
@@ -64,7 +64,7 @@ they mean. In a crate, `rt lemma slice_get` prints the definition of such a word
 # The words of the library and the logic, as a reader meets them, and what they mean.
 LIBRARY = (
     ("ℕ Bool true false", "the natural numbers; the two truth values"),
-    ("Type", "what is true or not: `Type 0` is the type of statements, and of types"),
+    ("Type", "`Type 0` is the type of statements and of types"),
     ("→ λ", "from premises to a conclusion, or from an argument to a value; `λ x. b` is the"
      " function that gives `b` for `x`"),
     ("× ⊎ ↔ ¬", "both statements; one of them; each if the other; not this one. `(x : A) × B` says"
@@ -124,12 +124,15 @@ LIBRARY = (
 # it says in plain words.
 FIRST_HOUR: tuple[tuple[str, tuple[tuple[str, str], ...]], ...] = (
     (
-        "Words of SCION (AS, beacon, segment, hop field) are explained in [the"
-        " tutorial](tutorial.md). What `scionet run` answers to its lines is a run (`Ran`) of the"
-        " events of these lines; that this is a clause of the call is in part 2. A run has a"
-        " history: what happened, event by event.",
+        "AS, beacon and segment are explained in [the tutorial](tutorial.md). A hop field is an"
+        " AS's entry in a path, with its authenticator; an info field says how a segment is"
+        " travelled, and has the accumulator, two bytes that chain its authenticators. What"
+        " `scionet run` answers to its lines is a run (`Ran`) of the events of these lines; that"
+        " this is a clause of the call is in part 2 of the whole book. A run has a history: what"
+        " happened, event by event.",
         (
-            ("network_core/Ran.Ran", "A run of these events ends with this network."),
+            ("network_core/Ran.Ran", "A run of these events: `network` is its topology, and `net`"
+             " the network with which it ends."),
             ("network_core/Ran.IsRun", "What is promised of every run. The headline is"
              " `delivered`."),
             ("network_core/History.Occurs", "An event happened and had this reply."),
@@ -167,8 +170,9 @@ FIRST_HOUR: tuple[tuple[str, tuple[tuple[str, str], ...]], ...] = (
     ),
     (
         "These are the premises, for the first `k` events; what happens later doesn't matter. Here"
-        " `sent` is the number of the Send event, `p` that of its packet, and an event is done if"
-        " it was not refused. An expiry is counted in half seconds, and the network's `moment` in"
+        " `sent` is the number of the Send event (in `Headline` it is what was sent), `p` that of"
+        " its packet, and an event is done if it was not refused; a turn in which a router refuses"
+        " the packet is done. An expiry is counted in half seconds, and the network's `moment` in"
         " seconds.",
         (
             ("network_core/Headline.Undisturbed", "All premises about one packet."),
@@ -225,13 +229,16 @@ FIRST_HOUR: tuple[tuple[str, tuple[tuple[str, str], ...]], ...] = (
 # What part 0 names and ends at a sentence.
 OUTSIDE = (
     ("network_core/Step.Step", "One event, from the network before it to its reply and the network"
-     " after it. A Turn does as `turns` says. A Send is refused by the verifier if the way breaks a"
-     " rule; else it puts the packet at the first router, unless a million packets were sent. Tick"
-     " sets the clock; Originate, Extend and Terminate make beacons and register segments; Sweep"
-     " drops expired segments; Ask gives an answer; Lose and Alter harm a packet; CutLink, MendLink"
-     " and RotateKey change the topology. By `Leads`, a refused event changes nothing."),
+     " after it. A Turn does as `turns` says. A Send is refused if there is no such way, if the way"
+     " breaks a rule, if its source or its first way out is not in the topology, or if a million"
+     " packets were sent; else the packet is at the router that owns the first way out. Tick moves"
+     " the clock on, never back; Originate, Extend and Terminate make beacons over links that are"
+     " up, with the key in use, and register segments; Sweep drops expired segments; Ask gives an"
+     " answer; Lose and Alter harm a packet; CutLink, MendLink and RotateKey change the topology. By"
+     " `Leads`, a refused event changes nothing."),
     ("network_core/Step.shipment_by", "What a Send sends: the payload, and the way of an answer, a"
-     " given way or the way back of a delivered packet; or why there is none."),
+     " given way or the way back of a delivered packet, which has no policy; or why there is"
+     " none."),
     ("network_core/History.AreAsked", "Every answer that is kept was given by an Ask. Its paths"
      " were accepted then, and their segments were issued by events before."),
     ("network_core/Headline.IsAnswerable", "A delivered packet can be answered: the way back is"
@@ -243,7 +250,7 @@ OUTSIDE = (
      " entry by entry, each with its authenticator."),
     ("beaconing/Calls.terminated_beacon", "The segment that a beacon becomes if it ends in this AS;"
      " or why it does not."),
-    ("router_step/Packet.packet_step", "All thirteen checks of a router on the bytes of a packet:"
+    ("router_step/Packet.packet_step", "All thirteen steps of a router on the bytes of a packet:"
      " the first refusal, or the outcome and the new bytes. [router.md](router.md) lists them."),
     ("path_verifier/Header.header_of", "The header that these pieces make, by the draft's layout,"
      " with the packet at its first hop field."),

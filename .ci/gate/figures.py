@@ -19,7 +19,7 @@ NUMBER_WORDS = {
 NEARLY = 0.1
 
 # The most words of README.md, and the most bytes of all pages of docs/.
-MOST_WORDS, MOST_BYTES = 1_200, 250_000
+MOST_WORDS, MOST_BYTES = 1_200, 250 * 1024
 
 # A figure, as 1,308 million or 0.0085.
 FIGURE = re.compile(r"^(\d[\d,]*(?:\.\d+)?)( million)?\*?$")
