@@ -340,7 +340,8 @@ VIEWS_HEAD = """## How the code's values are seen
 
 Clauses of calls speak of values of the code. These are the views by which `run` of `network_core`,
 whose clause is `Ran`, and the calls on its network and its packets are read; `stored_way` is the
-`Way` of what is stored:
+`Way` of what is stored. `items` are those of a vector; `topology`, `store` and `transit` are fields
+of the code, each with a view of its own: a network, the list of registered segments, a packet.
 """
 REST = "## Part 1: the rest of the theorem\n"
 CLAUSES = """## Part 2: how the theorem is a clause of calls

@@ -75,6 +75,9 @@ LIBRARY = (
     ("record with let in do ←", "`record { f = v }` is a record of these fields, `record x { f = v"
      " }` is `x` with `f` changed; `let` names a value; `do` goes on with the value of each step"
      " (`x ← step`), up to the first refusal, and is short for `>>=`"),
+    ("where infixl enum bool usize u8", "`where` stands before the fields or the forms; `infixl`"
+     " says how tightly a sign binds; `enum`, `bool`, `usize`, `u8` and the like are types of the"
+     " code"),
     ("+ - * / % ^ suc zero min", "of numbers; `-` ends at 0, `/` and `%` are quotient and rest,"
      " `suc n` is `n + 1`"),
     ("< ≤ nat_lt nat_le nat_cmp Ordering Less ordering_then", "comparisons, as statements, as tests"
@@ -86,7 +89,8 @@ LIBRARY = (
     ("List [] ∷ ++ length", "lists: the empty one; an item before a list; one list before another;"
      " how long it is"),
     ("map filter filter_map flat_map fold", "each item changed; those that pass a test; those for"
-     " which something is given; the lists of all items joined; all items one after the other"),
+     " which something is given; the lists of all items joined; from a value on, a function applied"
+     " to it and each item in turn"),
     ("take drop reverse replicate", "the first `n` items; all but these; backwards; one item `n`"
      " times"),
     ("slice_get slice_index slice_index_or slice_set", "item number `i`, counted from 0: if there"
@@ -137,7 +141,8 @@ FIRST_HOUR: tuple[tuple[str, tuple[tuple[str, str], ...]], ...] = (
              " `delivered`."),
             ("network_core/History.Occurs", "An event happened and had this reply."),
             ("network_core/Event.EventValue", "What may happen. A decision made here: the drafts"
-             " have no events."),
+             " have no events. `beta` is the first accumulator of a beacon, `limit` the most paths"
+             " of an answer; byte `at` of a packet becomes the exclusive or of it and `change`."),
             ("network_core/History.IsHistory", "Each event starts from the network that the one"
              " before it left."),
             ("network_core/History.net_at", "The network before an event."),
@@ -234,8 +239,8 @@ OUTSIDE = (
      " packets were sent; else the packet is at the router that owns the first way out. Tick moves"
      " the clock on, never back; Originate, Extend and Terminate make beacons over links that are"
      " up, with the key in use, and register segments; Sweep drops expired segments; Ask gives an"
-     " answer; Lose and Alter harm a packet; CutLink, MendLink and RotateKey change the topology. By"
-     " `Leads`, a refused event changes nothing."),
+     " answer; Lose and Alter harm a packet; CutLink, MendLink and RotateKey change the topology."
+     " By `Leads`, a refused event changes nothing."),
     ("network_core/Step.shipment_by", "What a Send sends: the payload, and the way of an answer, a"
      " given way or the way back of a delivered packet, which has no policy; or why there is"
      " none."),
