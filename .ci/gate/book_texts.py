@@ -175,10 +175,9 @@ FIRST_HOUR: tuple[tuple[str, tuple[tuple[str, str], ...]], ...] = (
     ),
     (
         "These are the premises, for the first `k` events; what happens later doesn't matter. Here"
-        " `sent` is the number of the Send event (in `Headline` it is what was sent), `p` that of"
-        " its packet, and an event is done if it was not refused; a turn in which a router refuses"
-        " the packet is done. An expiry is counted in half seconds, and the network's `moment` in"
-        " seconds.",
+        " `number` is that of the Send event, as in `Headline`, `p` that of its packet, and an"
+        " event is done if it was not refused; a turn in which a router refuses the packet is done."
+        " An expiry is counted in half seconds, and the network's `moment` in seconds.",
         (
             ("network_core/Headline.Undisturbed", "All premises about one packet."),
             ("network_core/Headline.Kept", "Its segments were issued, and keys and links held"

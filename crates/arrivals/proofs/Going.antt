@@ -161,5 +161,5 @@ module _ (start : NetValue) (history : List EventRecord) (number p : ℕ) (route
         packet = f.packet;
         there = subst (λ h. slice_get (net_after start h).packets p ≡ Some f.packet) all_of_it
             f.there;
-        delivered = headline.in_time end far quiet_end enough;
+        delivered = headline.delivers end far quiet_end enough;
       }

@@ -177,7 +177,7 @@ module _ (start : NetValue) (history : List EventRecord) (is : IsHistory start h
   headline = record {
     accepted = accepted start history is network number p sent sends frame;
     forwarded = forwarded;
-    in_time = λ k after quiet enough. (
+    delivers = λ k after quiet enough. (
         let few = turns_are_few (net_at start history number).network sent.way.pieces sent.way.source
         sent.way.destination (net_at start history number).moment
         (path_kept (accepted start history is network number p sent sends frame)) in

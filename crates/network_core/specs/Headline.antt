@@ -27,26 +27,27 @@ pub record IsDone (history : List EventRecord) (k : ℕ) (event : EventValue) : 
   pub done : is_done reply ≡ true
 
 -- each piece is of a segment that was issued by events of the history, from number `begin` on and
--- before number `sent`
-abbrev pub AreIssuedFrom : NetValue → List EventRecord → (begin sent : ℕ) → List PieceValue → Type 0
-AreIssuedFrom start history begin sent pieces =
-    All (λ piece. (first last : ℕ) × ((begin ≤ first) × ((last < sent)
+-- before event `number`
+abbrev pub AreIssuedFrom : NetValue → List EventRecord → (begin number : ℕ)
+    → List PieceValue → Type 0
+AreIssuedFrom start history begin number pieces =
+    All (λ piece. (first last : ℕ) × ((begin ≤ first) × ((last < number)
     × IssuedIn start history first last piece.segment))) pieces
 
 -- `AreIssuedFrom`, and `begin` is the number of the first of all these events
-pub record HaveBeginning (start : NetValue) (history : List EventRecord) (sent : ℕ)
+pub record HaveBeginning (start : NetValue) (history : List EventRecord) (number : ℕ)
     (pieces : List PieceValue) : Type 0 where
   pub begin : ℕ
-  pub each : AreIssuedFrom start history begin sent pieces
-  pub earliest : Any (λ piece. (last : ℕ) × ((last < sent)
+  pub each : AreIssuedFrom start history begin number pieces
+  pub earliest : Any (λ piece. (last : ℕ) × ((last < number)
       × IssuedIn start history begin last piece.segment)) pieces
 
 -- the pieces were issued by events from number `begin` on. Since then no AS of their travelled
 -- entries has changed its key twice, and no link between two of these entries was cut.
-pub record Kept (start : NetValue) (history : List EventRecord) (sent : ℕ)
+pub record Kept (start : NetValue) (history : List EventRecord) (number : ℕ)
     (pieces : List PieceValue) : Type 0 where
   pub begin : ℕ
-  pub issued : AreIssuedFrom start history begin sent pieces
+  pub issued : AreIssuedFrom start history begin number pieces
   pub keys : (i j ia : ℕ) (key other : List ℕ) → begin ≤ i → i < j
       → IsDone history i (RotateKey ia key) → IsDone history j (RotateKey ia other)
       → All (λ piece. AvoidsAs piece.segment piece.from piece.to ia) pieces
@@ -55,18 +56,18 @@ pub record Kept (start : NetValue) (history : List EventRecord) (sent : ℕ)
 
 -- `Kept`, and nobody alters the packet, nothing loses it, and each of its turns comes no later than
 -- the expiry of its path
-pub record Undisturbed (start : NetValue) (history : List EventRecord) (sent p : ℕ)
+pub record Undisturbed (start : NetValue) (history : List EventRecord) (number p : ℕ)
     (pieces : List PieceValue) : Type 0 where
-  pub kept : Kept start history sent pieces
+  pub kept : Kept start history number pieces
   pub unaltered : (k at change : ℕ) → ¬ (IsDone history k (Alter p at change))
   pub unlost : (k : ℕ) → ¬ (IsDone history k (Lose p))
   pub expiry : ℕ
   pub least : IsExpiry pieces expiry
   pub in_time : (k : ℕ) → IsDone history k (Turn p) → 2 * (net_at start history k).moment ≤ expiry
 
--- the number of turns of the packet among the first `k` events, after event number `sent`
-abbrev pub turns_since : (history : List EventRecord) (sent p k : ℕ) → ℕ
-turns_since history sent p k = turns_of p (drop (sent + 1) (take k history))
+-- the number of turns of the packet among the first `k` events, after event `number`
+abbrev pub turns_since : (history : List EventRecord) (number p k : ℕ) → ℕ
+turns_since history number p k = turns_of p (drop (number + 1) (take k history))
 
 -- a reply to the delivered packet goes the way back: from its destination to its source, over its
 -- pieces in reverse order and direction. The verifier accepts this way at each second up to the
@@ -94,7 +95,7 @@ pub record Headline (start : NetValue) (history : List EventRecord) (number p : 
       → IsForwarded (net_at start history k) p
       (turns_for (net_at start history number).network (walk_of sent.way.pieces))
       (turns_since history number p k) sent
-  pub in_time : (k : ℕ) → (after : number < k)
+  pub delivers : (k : ℕ) → (after : number < k)
       → (quiet : Undisturbed start (take k history) number p sent.way.pieces)
       → 2 * total_hops sent.way.pieces ≤ turns_since history number p k
       → (forwarded k after quiet).packet.packet.place ≡ Delivered

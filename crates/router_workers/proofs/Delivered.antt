@@ -65,7 +65,7 @@ before n sent total done packet early few stands =
         λ enough. absurd (omega arith),
       );
       waits = λ _. at;
-      in_time = λ enough. absurd (omega arith);
+      delivers = λ enough. absurd (omega arith);
       whole = λ delivered. absurd (let both = sym place ∙ delivered in cc);
     }
 
@@ -80,7 +80,7 @@ behind sent total done packet enough there =
       so_far = ap (λ (q : Packet). q.passed ++ []) there ∙ append-nil (walk_of sent.pieces);
       exact = (λ delivered. enough, λ _. place);
       waits = λ early. absurd (omega arith);
-      in_time = λ _. place;
+      delivers = λ _. place;
       whole = λ delivered. there;
     }
 

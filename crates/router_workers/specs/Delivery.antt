@@ -24,7 +24,7 @@ pub record IsFlightForwarded (sent : SentPacket) (total done : ℕ) (packet : Pa
   pub so_far : packet.passed ++ rest ≡ walk_of sent.pieces
   pub exact : packet.place ≡ places.Delivered ↔ (total ≤ done)
   pub waits : done < total → IsAtRouter packet.place
-  pub in_time : 2 * total_hops sent.pieces ≤ done → packet.place ≡ places.Delivered
+  pub delivers : 2 * total_hops sent.pieces ≤ done → packet.place ≡ places.Delivered
   pub whole : packet.place ≡ places.Delivered
       → packet ≡ arrived_with sent.source sent.destination sent.payload sent.pieces
 

@@ -282,4 +282,4 @@ delivered_whole start history number p k sent one packet front payload is headli
     same_Some f.packet (framed_value one last)
     (sym f.there ∙ ap (λ (net : NetValue). slice_get net.packets p) (sym end) ∙ on) in
     ap (λ (x : PacketValue). x.packet) (sym found)
-    ∙ f.whole (headline.in_time k after quiet enough)
+    ∙ f.whole (headline.delivers k after quiet enough)
