@@ -27,7 +27,7 @@ TURN = '{"do":"turn","packet":0}'
 HELP = {
     EXAMPLE: [2],
     HELP_OF_RUN: [1],
-    "crates/scionet_view/src/words.rt": [1, 1, 1],
+    "crates/view_words/src/words.rt": [1, 1, 1],
 }
 
 FUNCTION = re.compile(r"(?<=pub fn )(\w+)(\(\) -> &'static str \{\n).*?(?=\}\n)", re.S)

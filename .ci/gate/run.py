@@ -73,6 +73,7 @@ STEPS = (
     Step("report"),
     Step("explain"),
     Step("captures"),
+    Step("run_packets"),
     Step("playground"),
     Step("bindings", minutes=60),
     Step("documents"),

@@ -85,7 +85,7 @@ Steps answer turn source sink =
 -- ---- a network's run
 
 -- the result of a command from that of its run
-abbrev pub after_run : Result (Unit {0}) RunFault → Result (Unit {0}) CommandFault
+abbrev pub after_run : {A : Type 0} → Result A RunFault → Result A CommandFault
 after_run (Ok done) = Ok done
 after_run (Err fault) = Err (of_run fault)
 

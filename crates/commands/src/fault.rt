@@ -21,10 +21,10 @@ pub enum WordsFault {
     #[error("{0}")]
     Usage(String),
     /// The words are no UTF-8, or `clap` accepts them and they are no command.
-    #[error("scionet: usage")]
+    #[error("usage")]
     NoCommand,
     /// Memory ran out.
-    #[error("scionet: out of memory")]
+    #[error("out of memory")]
     Memory,
 }
 
@@ -58,28 +58,28 @@ pub enum CommandFault {
     #[error("{0}")]
     Usage(String),
     /// The words are no UTF-8, or `clap` accepts them and they are no command.
-    #[error("scionet: usage")]
+    #[error("usage")]
     NoCommand,
     /// The packet's text is not hexadecimal digits, two for each byte.
-    #[error("scionet: bad packet text")]
+    #[error("bad packet text")]
     PacketText,
     /// The first line of standard input is no topology.
-    #[error("scionet: topology refused")]
+    #[error("topology refused")]
     Topology,
     /// There are not 1 to 8 workers.
-    #[error("scionet: workers refused")]
+    #[error("workers refused")]
     Workers,
     /// A read of standard input failed.
-    #[error("scionet: read failed")]
+    #[error("read failed")]
     Read,
     /// A write to standard output failed, or wrote no byte.
-    #[error("scionet: write failed")]
+    #[error("write failed")]
     Write,
     /// Standard input has more than 67,108,864 bytes.
-    #[error("scionet: input too long")]
+    #[error("input too long")]
     InputTooLong,
     /// Memory ran out.
-    #[error("scionet: out of memory")]
+    #[error("out of memory")]
     Memory,
 }
 

@@ -12,13 +12,13 @@ pub enum StepFault {
     #[error("{0}")]
     Usage(String),
     /// The words are no UTF-8, or `clap` accepts them and they are no turn.
-    #[error("scionet: usage")]
+    #[error("usage")]
     NoCommand,
     /// The packet's text is not hexadecimal digits, two for each byte.
-    #[error("scionet: bad packet text")]
+    #[error("bad packet text")]
     PacketText,
     /// Memory ran out.
-    #[error("scionet: out of memory")]
+    #[error("out of memory")]
     Memory,
 }
 

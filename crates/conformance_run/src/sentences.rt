@@ -90,12 +90,12 @@ fn sentences_of_words_and_of_commands(rt: HostRuntime) -> Result<(), Fail> {
     let alloc = rt.alloc();
     let words = [
         (WordsFault::Usage("a text".to_string(alloc)?), "a text"),
-        (WordsFault::NoCommand, "scionet: usage"),
-        (WordsFault::Memory, "scionet: out of memory"),
+        (WordsFault::NoCommand, "usage"),
+        (WordsFault::Memory, "out of memory"),
     ];
     let commands = [
         (CommandFault::Usage("a text".to_string(alloc)?), "a text"),
-        (CommandFault::Workers, "scionet: workers refused"),
+        (CommandFault::Workers, "workers refused"),
     ];
     expect_sentences(&rt, alloc, &words)?;
     expect_sentences(&rt, alloc, &commands)

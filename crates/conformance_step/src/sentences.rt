@@ -20,9 +20,9 @@ fn sentences(rt: HostRuntime) -> Result<(), Fail> {
     assert!(rt; is_sentence(alloc, &WriteFailed, "write failed")?);
     assert!(rt; is_sentence(alloc, &TurnFault::PacketText, "bad packet text")?);
     assert!(rt; is_sentence(alloc, &TurnFault::Memory, "out of memory")?);
-    assert!(rt; is_sentence(alloc, &StepFault::NoCommand, "scionet: usage")?);
-    assert!(rt; is_sentence(alloc, &StepFault::PacketText, "scionet: bad packet text")?);
-    assert!(rt; is_sentence(alloc, &StepFault::Memory, "scionet: out of memory")?);
+    assert!(rt; is_sentence(alloc, &StepFault::NoCommand, "usage")?);
+    assert!(rt; is_sentence(alloc, &StepFault::PacketText, "bad packet text")?);
+    assert!(rt; is_sentence(alloc, &StepFault::Memory, "out of memory")?);
     Ok(())
 }
 
@@ -30,13 +30,13 @@ fn sentences(rt: HostRuntime) -> Result<(), Fail> {
 #[test]
 fn sentences_of_commands(rt: HostRuntime) -> Result<(), Fail> {
     let rows = [
-        (CommandFault::NoCommand, "scionet: usage"),
-        (CommandFault::PacketText, "scionet: bad packet text"),
-        (CommandFault::Topology, "scionet: topology refused"),
-        (CommandFault::Read, "scionet: read failed"),
-        (CommandFault::Write, "scionet: write failed"),
-        (CommandFault::InputTooLong, "scionet: input too long"),
-        (CommandFault::Memory, "scionet: out of memory"),
+        (CommandFault::NoCommand, "usage"),
+        (CommandFault::PacketText, "bad packet text"),
+        (CommandFault::Topology, "topology refused"),
+        (CommandFault::Read, "read failed"),
+        (CommandFault::Write, "write failed"),
+        (CommandFault::InputTooLong, "input too long"),
+        (CommandFault::Memory, "out of memory"),
     ];
     for (fault, sentence) in &rows {
         assert!(rt; is_sentence(rt.alloc(), fault, sentence)?);

@@ -2,10 +2,13 @@
 use Rattle.std.specs.Prelude.{ℕ, codes, if◌then◌else◌, List, [], ◌∷◌, ◌++◌, Option, Some, Result, Ok, Err, is_ok}
 use Rattle.separators.specs.Blanks.{trimmed_text}
 use Rattle.refusal.specs.Optional.{◌>>=◌}
+use Rattle.scion_topology.specs.View.{View}
+use Rattle.router_step.specs.declared.arrival.Arrival.{Arrival}
 use Rattle.router_step.specs.declared.fault.Refusal.{Refusal}
+use Rattle.router_step.specs.Packet.{packet_step}
 use Rattle.step_line.specs.Fields.{hex_bytes_of}
 use Rattle.step_line.specs.Turn.{Turn}
-use Rattle.step_line.specs.Line.{line_of, refusal_line}
+use Rattle.step_line.specs.Line.{line_of, refusal_line, text_of}
 use Rattle.packet_view.specs.Fields.{fields_text}
 use Rattle.packet_view.specs.Checks.{CheckValue, checks_of}
 
@@ -34,3 +37,10 @@ lines_of turn text = do
   packet ← hex_bytes_of (trimmed_text text)
   line ← line_of turn text
   Some (lines_before turn packet ++ line)
+
+-- the lines about a packet that comes by this arrival to a router with this view: its fields, the
+-- checks of the router, and the line of its turn
+unfoldable pub turn_lines : (view : View) (now : ℕ) (arrival : Arrival) (packet : List ℕ) → List ℕ
+turn_lines view now arrival packet =
+    fields_text packet ++ (checks_text (checks_of view now arrival packet)
+    ++ (text_of (packet_step view now arrival packet) ++ codes "\n"))

@@ -17,8 +17,10 @@ mod lines;
 mod part;
 mod sides;
 mod situation;
+mod turned;
 mod whole;
 
 pub use fields::fields_text;
 pub use lines::packet_lines;
+pub use turned::turn_lines;
 pub use whole::{packet_fault_line, whole_packet_lines};

@@ -28,7 +28,7 @@ fn add_line(alloc: Global, text: &mut String, check: &Check) -> Result<(), Alloc
 }
 
 /// The checks up to the first that fails, each on a line.
-fn checks_text(alloc: Global, checks: &[Check]) -> Result<String, AllocError>
+pub(crate) fn checks_text(alloc: Global, checks: &[Check]) -> Result<String, AllocError>
     ensures { IfOk result (λ text. string_bytes text ≡ checks_text checks.now) }
 {
     let mut text = String::new(alloc);

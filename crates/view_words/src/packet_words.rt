@@ -88,7 +88,7 @@ pub(crate) fn capture_command<'a>(alloc: Global) -> Result<Command<'a>, AllocErr
 /// The fault of a text that is no address.
 fn bad_address(alloc: Global, name: &str, text: &str) -> Result<WordsFault, AllocError> {
     let said = format!(in alloc;
-        "scionet_view: --{name}: found {text}, wanted an address of IPv4 or IPv6\n"
+        "scionet_view: --{name}: found \"{text}\", wanted an address of IPv4 or IPv6\n"
     )?;
     Ok(WordsFault::Usage(said))
 }

@@ -33,15 +33,15 @@ Example: the ASes that lose all their paths to 1-ff00:0:110 if the link at its i
 
 /// What a report is about, as the words say.
 #[derive(Drop)]
-pub(crate) struct ReportWords {
+pub struct ReportWords {
     /// The AS in which the paths begin, if it is named.
-    pub(crate) from: Option<IsdAs>,
+    pub from: Option<IsdAs>,
     /// The AS in which they end, if it is named.
-    pub(crate) to: Option<IsdAs>,
+    pub to: Option<IsdAs>,
     /// The policy that they keep.
-    pub(crate) policy: Policy<Global>,
+    pub policy: Policy<Global>,
     /// The most paths between two ASes.
-    pub(crate) limit: u16,
+    pub limit: u16,
 }
 
 /// An option with a text.

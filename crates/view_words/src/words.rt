@@ -1,15 +1,16 @@
 //! The words of the command line.
 
 use crate::packet_words::{capture_command, info_in, wrap_command};
-use crate::report_words::{ReportWords, report_command, report_in};
+use crate::report_words::{report_command, report_in};
+use crate::turn_words::bad_turn;
+use crate::view::{Subject, View};
 use beacon_lines::{BeaconingOptions, MAX_PER_PAIR};
 use clap::builder::ValueParser;
 use clap::{Arg, ArgAction, ArgGroup, ArgMatches, Command};
 use commands::{VERSION, WordsFault, explain_refusal, turn, with_example, with_turn};
 use path_segment::MAX_SEGMENT_LEN;
-use scion_packet::PacketInfo;
 use std::alloc::{AllocError, Global};
-use step_line::{StepCommand, number};
+use step_line::number;
 
 /// The end of the long help of `packet`.
 static PACKET_HELP: &str = "\
@@ -19,6 +20,11 @@ to the first that fails; and the last line is the one that 'scionet step' prints
 
 With --whole the packet is as it is on the wire, with the common header and the address header of \
 SCION, and so it is printed after the turn.
+
+With --packet, and nothing else, standard input has the lines of 'scionet run'. Of the packet, as \
+it is after the last of them, a line says where it is, and another one which hops it has passed; \
+then come its fields, and, if a router has it, the checks of that router at the second of the run \
+and the line of its turn. 'no 130 NoPacket' is printed if there is no such packet.
 
 Example: at second 100, a packet of a host leaves 1-ff00:0:111 over interface 2, to a parent
   printf 0001ff00000001100001ff0000000111000020000000b39600000064003f00020000\
@@ -94,45 +100,7 @@ which prints
   line 1: topology no 11 BadField: ases[0].key: found \"613\", wanted an even number of \
 hexadecimal digits for 1 to 64 bytes";
 
-/// What a view of a network is about. Its numbers are those of `scionet run`, from 0.
-#[derive(Clone, Copy)]
-pub(crate) enum Subject {
-    /// A packet.
-    Packet(u32),
-    /// A path of an answer.
-    Answer {
-        /// The number of the answer.
-        answer: u32,
-        /// The number of the path in the answer.
-        path: u32,
-    },
-}
-
-/// The view that the words of the command line ask for.
-#[derive(Drop)]
-pub(crate) enum View {
-    /// `packet`: the packet on standard input, at the router whose turn this is.
-    Packet(StepCommand),
-    /// `packet --whole`: the same of a whole packet.
-    WholePacket(StepCommand),
-    /// `wrap`: a packet of the network after the lines on standard input, as a whole packet that
-    /// says this besides.
-    Wrap(PacketInfo, u32),
-    /// `capture`: the capture of the run of these lines, whose packets say this besides.
-    Capture(PacketInfo),
-    /// `network`: the network after the lines on standard input, and what is marked in it.
-    Network(Option<Subject>),
-    /// `path`: the path of a packet of that network, or of an answer.
-    Path(Subject),
-    /// `report`: the paths of that network.
-    Report(ReportWords),
-    /// `beacons`: a complete beaconing of the topology on standard input.
-    Beacons(BeaconingOptions),
-    /// `explain`: what is wrong with the lines on standard input that are refused.
-    Explain,
-}
-
-/// The command `packet`.
+/// The command `packet`. Its option `--packet` stands alone, without the turn of a router.
 fn packet_command<'a>(alloc: Global) -> Result<Command<'a>, AllocError> {
     let command = Command::new(alloc, "packet")
         .about("Shows a packet field by field, and what a router checks of it")
@@ -141,7 +109,9 @@ fn packet_command<'a>(alloc: Global) -> Result<Command<'a>, AllocError> {
         .long("whole")
         .action(ArgAction::SetTrue)
         .help("The packet is a whole one, with its common header and its address header");
-    with_turn(alloc, command)?.arg(whole)
+    let help = "Instead of all others: the number of a packet of the lines of a run";
+    let of_run = place_option(alloc, "packet", help).exclusive(true);
+    with_turn(alloc, command)?.arg(whole)?.arg(of_run)
 }
 
 /// The option with the number of something that the lines have made.
@@ -295,15 +265,18 @@ fn beacons(matches: &ArgMatches<'_>) -> Option<View> {
     }))
 }
 
-/// The view of the matches of `packet`, if they give a turn.
-fn packet(alloc: Global, matches: &ArgMatches<'_>) -> Result<Option<View>, AllocError> {
+/// The view of the matches of `packet`. The fault tells which word gives no turn.
+fn packet(alloc: Global, matches: &ArgMatches<'_>) -> Result<View, WordsFault> {
+    if let Some(number) = number_in(matches, "packet") {
+        return Ok(View::PacketOfRun(number));
+    }
     let Some(command) = turn(alloc, matches)? else {
-        return Ok(None);
+        return Err(bad_turn(alloc, matches)?);
     };
     if matches.get_flag("whole") {
-        return Ok(Some(View::WholePacket(command)));
+        return Ok(View::WholePacket(command));
     }
-    Ok(Some(View::Packet(command)))
+    Ok(View::Packet(command))
 }
 
 /// The view of the matches of `wrap`, if their numbers can be read.
@@ -343,17 +316,18 @@ fn view_in(alloc: Global, matches: &ArgMatches<'_>) -> Result<Option<View>, Word
     if name == "capture" {
         return Ok(info_in(alloc, given)?.map(View::Capture));
     }
-    Ok(packet(alloc, given)?)
+    Ok(Some(packet(alloc, given)?))
 }
 
 /// The view of the words after the program's name.
 ///
 /// [`WordsFault::Usage`] with the text of `clap`, if it refuses the words or they ask for help. The
-/// same fault with the text `scionet_view: usage`, if the words give no turn or a number can't be
-/// read; with a refusal's number, name and sentence, if an address or a policy of `report` is
-/// refused; and with what was found and wanted, if a host of `wrap` or `capture` is no address.
+/// same fault with the text `scionet_view: usage`, if a number can't be read; with a refusal's
+/// number, name and sentence, if an address or a policy of `report` is refused; and with what was
+/// found and wanted, if a word of a turn can't be read, or a host of `wrap` or `capture` is no
+/// address.
 /// [`WordsFault::Memory`] if memory runs out.
-pub(crate) fn read_view<'a>(alloc: Global, words: &'a [&'a str]) -> Result<View, WordsFault> {
+pub fn read_view<'a>(alloc: Global, words: &'a [&'a str]) -> Result<View, WordsFault> {
     let matches = match program(alloc)?.try_get_matches_from(words) {
         Ok(matches) => matches,
         Err(error) => return Err(explain_refusal(alloc, &error)),

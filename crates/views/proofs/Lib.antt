@@ -1,2 +1,3 @@
 pub mod Paths
 mod Wrapping
+mod Showing

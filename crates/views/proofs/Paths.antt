@@ -9,7 +9,7 @@ use Rattle.path_verifier.specs.Piece.{PieceValue}
 use Rattle.path_verifier.specs.Accepted.{IsAccepted, IsExpiry, AreLive, MakesPath, request_of}
 use Rattle.path_verifier.proofs.Breaches.{accepts, header_kept, hops_kept, path_kept, word_kept}
 use Rattle.network_core.specs.Value.{Way, asked_at}
-use Rattle.scionet_view.specs.Path.{TellsPath, path_lines}
+use Rattle.views.specs.Path.{TellsPath, path_lines}
 
 live_at_once : (pieces : List PieceValue) → AreLive 0 pieces
 live_at_once pieces = λ k piece within. λ j entry inside. omega arith

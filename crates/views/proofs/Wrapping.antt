@@ -6,7 +6,7 @@ use Rattle.packet_view.specs.Whole.{packet_fault_line}
 use Rattle.scion_packet.specs.declared.fault.PacketFault.{PacketFault}
 use Rattle.scion_packet.specs.Value.{WholePacketValue}
 use Rattle.wire_packets.specs.Wrapped.{Wraps}
-use Rattle.scionet_view.specs.Wrapped.{whole_text}
+use Rattle.views.specs.Wrapped.{whole_text}
 
 pub bytes_shown : {A : Type 0} (bytes : Vec ℕ A) (wanted : Result WholePacketValue PacketFault)
     (text : List ℕ) → Wraps (Ok bytes) wanted → text ≡ encode_lower bytes.items ++ codes "\n"

@@ -4,3 +4,5 @@ pub mod Network
 pub mod Path
 pub mod Report
 pub mod Wrapped
+pub mod RunPacket
+pub mod Shown

@@ -15,8 +15,8 @@ use Rattle.network_core.specs.Value.{NetValue}
 use Rattle.network_view.specs.declared.marks.Router.{Router}
 use Rattle.network_view.specs.Dot.{dot_of}
 use Rattle.refusal.specs.Optional.{◌>>=◌}
-use Rattle.scionet_view.specs.declared.words.Subject.{Subject}
-use Rattle.scionet_view.specs.declared.words.Subject.TheVariants.{Packet, Answer}
+use Rattle.view_words.specs.declared.view.Subject.{Subject}
+use Rattle.view_words.specs.declared.view.Subject.TheVariants.{Packet, Answer}
 
 -- the line with which a run answers an event that is refused for this reason
 abbrev pub fault_line : EventFault → List ℕ

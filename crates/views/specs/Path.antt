@@ -11,7 +11,7 @@ use Rattle.network_core.specs.declared.fault.EventFault.TheVariants.{NoPacket}
 use Rattle.network_core.specs.Value.{PacketValue}
 use Rattle.event_lines.specs.Text.{hops_text, kinds_text}
 use Rattle.packet_view.specs.Fields.{each_below, fields_text}
-use Rattle.scionet_view.specs.Network.{fault_line}
+use Rattle.views.specs.Network.{fault_line}
 
 -- the name of a kind of piece
 unfoldable pub piece_kind_name : PieceKind → List ℕ

@@ -14,9 +14,9 @@ use Rattle.event_lines.specs.Run.{Listens}
 use Rattle.path_report.specs.declared.fault.ReportFault.{ReportFault}
 use Rattle.path_report.specs.declared.fault.ReportFault.TheVariants as reports
 use Rattle.path_report.specs.Report.{ReportOptionsValue, IsReport, BeginsReport}
-use Rattle.scionet_view.specs.declared.report_words.ReportWords.{ReportWords}
-use Rattle.scionet_view.specs.Network.{fault_line}
-use Rattle.scionet_view.specs.Reached.{Begins, Writes}
+use Rattle.view_words.specs.declared.report_words.ReportWords.{ReportWords}
+use Rattle.views.specs.Network.{fault_line}
+use Rattle.views.specs.Reached.{Begins, Writes}
 
 -- what the words want a report of
 abbrev pub wanted_by : ReportWords → ReportOptionsValue

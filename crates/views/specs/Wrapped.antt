@@ -8,7 +8,7 @@ use Rattle.scion_packet.specs.Value.{PacketInfoValue, WholePacketValue}
 use Rattle.scion_packet.specs.Spelling.{packet_spelling}
 use Rattle.wire_packets.specs.Wrapped.{wrapped}
 use Rattle.packet_view.specs.Whole.{packet_fault_line}
-use Rattle.scionet_view.specs.Network.{fault_line}
+use Rattle.views.specs.Network.{fault_line}
 
 -- the bytes of a whole packet in hexadecimal, or why there is none
 abbrev pub whole_text : Result WholePacketValue PacketFault → List ℕ

@@ -2,7 +2,7 @@
 
 ghost use Rattle.std.specs.Prelude.{◌≡◌, ◌||◌};
 ghost use Rattle.event_lines.specs.Run.{is_read_fault, is_write_fault};
-ghost use Rattle.scionet_view.specs.Explained.{ExplainsAll};
+ghost use Rattle.views.specs.Explained.{ExplainsAll};
 
 use event_lines::RunFault;
 use line_faults::explain;

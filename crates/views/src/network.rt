@@ -3,11 +3,10 @@
 ghost use Rattle.std.specs.Prelude.{◌≡◌, ◌||◌, IfOk, MatchResult, Ok, Err, option_map};
 ghost use Rattle.std.specs.String.{string_bytes};
 ghost use Rattle.event_lines.specs.Run.{is_read_fault};
-ghost use Rattle.scionet_view.specs.Reached.{Shows};
-ghost use Rattle.scionet_view.specs.Network.{path_at, picture_of, marks_in, fault_line, router_at};
+ghost use Rattle.views.specs.Reached.{Shows};
+ghost use Rattle.views.specs.Network.{path_at, picture_of, marks_in, fault_line, router_at};
 
 use crate::network_after::network_after;
-use crate::words::Subject;
 use combinator::Path;
 use event_lines::RunFault;
 use forwarding::PacketLocation;
@@ -17,6 +16,7 @@ use policy_expr::WalkHop;
 use refusal::NumberedFault;
 use std::alloc::{AllocError, Global};
 use streams::Source;
+use view_words::Subject;
 
 /// The hops whose links a picture marks, and the router that it marks, if any.
 type Marks<'n> = (&'n [WalkHop], Option<Router>);

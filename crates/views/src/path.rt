@@ -6,8 +6,8 @@ ghost use Rattle.std.specs.String.{string_bytes};
 ghost use Rattle.path_verifier.specs.Piece.{HasRange};
 ghost use Rattle.network_core.specs.Value.{asked_at};
 ghost use Rattle.event_lines.specs.Run.{is_read_fault};
-ghost use Rattle.scionet_view.specs.Reached.{Shows};
-ghost use Rattle.scionet_view.specs.Path.{TellsPacket, TellsPath, piece_kind_name, path_lines, piece_line_at, numbered_piece, piece_lines};
+ghost use Rattle.views.specs.Reached.{Shows};
+ghost use Rattle.views.specs.Path.{TellsPacket, TellsPath, piece_kind_name, path_lines, piece_line_at, numbered_piece, piece_lines};
 
 use crate::network::fault_line;
 use crate::network_after::network_after;

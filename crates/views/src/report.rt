@@ -2,14 +2,13 @@
 
 ghost use Rattle.std.specs.Prelude.{◌≡◌, ◌||◌};
 ghost use Rattle.event_lines.specs.Run.{is_read_fault, is_write_fault};
-ghost use Rattle.scionet_view.specs.Network.{fault_line};
+ghost use Rattle.views.specs.Network.{fault_line};
 ghost use Rattle.path_report.specs.Report.{BeginsReport, IsReport};
-ghost use Rattle.scionet_view.specs.Reached.{Begins, Writes};
-ghost use Rattle.scionet_view.specs.Report.{BeginsTelling, ShowsReport, TellsReport, are_one, has_named, report_fault, run_fault, wanted_by};
+ghost use Rattle.views.specs.Reached.{Begins, Writes};
+ghost use Rattle.views.specs.Report.{BeginsTelling, ShowsReport, TellsReport, are_one, has_named, report_fault, run_fault, wanted_by};
 
 use crate::network::fault_line;
 use crate::network_after::network_after;
-use crate::report_words::ReportWords;
 use combinator::CombineFault;
 use event_lines::RunFault;
 use isd_as::IsdAs;
@@ -18,6 +17,7 @@ use path_report::{ReportFault, ReportOptions, path_report};
 use scion_topology::{Topology, TopologyFault};
 use std::alloc::Global;
 use streams::{Sink, Source, write_all};
+use view_words::ReportWords;
 
 /// Whether a topology has this AS, if one is named.
 fn has_named(topology: &Topology, named: Option<IsdAs>) -> bool

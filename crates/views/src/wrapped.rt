@@ -5,8 +5,8 @@ ghost use Rattle.std.specs.Io.KnownBytes.{Consumes};
 ghost use Rattle.std.specs.String.{string_bytes};
 ghost use Rattle.event_lines.specs.Run.{is_read_fault};
 ghost use Rattle.run_capture.specs.Lines.{IsCapture};
-ghost use Rattle.scionet_view.specs.Reached.{Shows};
-ghost use Rattle.scionet_view.specs.Wrapped.{wrapped_line, wrapped_text};
+ghost use Rattle.views.specs.Reached.{Shows};
+ghost use Rattle.views.specs.Wrapped.{wrapped_line, wrapped_text};
 
 use crate::network::fault_line;
 use crate::network_after::network_after;

@@ -2,7 +2,7 @@ use Rattle.std.proofs.Common.{All, sym, subst}
 use Rattle.path_verifier.specs.Piece.{HasRange}
 use Rattle.path_verifier.proofs.Breaches.{path_kept}
 use Rattle.network_core.proofs.Headlines.{all_at}
-use Rattle.scionet_view.proofs.path.add_piece.Goals as goal
+use Rattle.views.proofs.path.add_piece.Goals as goal
 
 pub numbered_piece-requires : goal.numbered_piece-requires
 numbered_piece-requires c =

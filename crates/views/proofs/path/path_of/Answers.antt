@@ -3,8 +3,8 @@ use Rattle.std.proofs.Common.{◌≤◌, List, length, ap, ◌∙◌, sym, true�
 use Rattle.path_verifier.specs.Piece.{PieceValue}
 use Rattle.path_verifier.proofs.Breaches.{path_kept}
 use Rattle.path_verifier.proofs.Lengths.{path_is_short}
-use Rattle.scionet_view.proofs.Paths.{request_accepted}
-use Rattle.scionet_view.proofs.path.path_of.Goals as goal
+use Rattle.views.proofs.Paths.{request_accepted}
+use Rattle.views.proofs.path.path_of.Goals as goal
 
 pub unreachable-requires : goal.unreachable-requires
 unreachable-requires c =

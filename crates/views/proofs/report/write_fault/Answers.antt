@@ -2,7 +2,7 @@
 use Rattle.std.proofs.Common.{[], refl}
 use Rattle.std.proofs.KnownBytes.{Appends-nil}
 use Rattle.std.proofs.lemmas.Result.{err_from_is_err_and}
-use Rattle.scionet_view.proofs.report.write_fault.Goals as goal
+use Rattle.views.proofs.report.write_fault.Goals as goal
 
 pub returns-in_err-line-clause-written : goal.returns-in_err-line-clause-written
 returns-in_err-line-clause-written g c =
