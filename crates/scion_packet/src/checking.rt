@@ -15,7 +15,7 @@ use crate::layout::{
     COMMON_LEN, HEADER_LENGTH, HOST_TYPES, HOSTS_START, LENGTH_UNIT, PATH_TYPE, PAYLOAD_LENGTH,
     SCION_PATH,
 };
-use path_header::{Header, HeaderMut, decode};
+use path_header::HeaderMut;
 
 /// The lengths of the addresses of the destination host and of the source host.
 pub(crate) fn host_lens(packet: &[u8]) -> (usize, usize)
@@ -30,7 +30,7 @@ pub(crate) fn host_lens(packet: &[u8]) -> (usize, usize)
 }
 
 /// Where the path header begins, or the first refusal of the common and the address header.
-fn path_place(packet: &[u8]) -> Result<usize, PacketFault>
+pub(crate) fn path_place(packet: &[u8]) -> Result<usize, PacketFault>
     ensures exact { result ≡ path_place_in packet.now }
     ensures place { IfOk result (λ place. place ≡ path_place packet.now) }
     ensures within { IfOk result (λ place. place ≤ length packet.now) }
@@ -73,7 +73,7 @@ pub(crate) fn check_headers(packet: &[u8]) -> Result<usize, PacketFault>
 }
 
 /// Checks the announced lengths of a packet whose headers end here.
-fn check_lengths(packet: &[u8], end: usize) -> Result<(), PacketFault>
+pub(crate) fn check_lengths(packet: &[u8], end: usize) -> Result<(), PacketFault>
     requires common { 12 ≤ length packet.now }
     requires end { end ≤ length packet.now }
     ensures exact { result ≡ check_lengths packet.now end }
@@ -88,27 +88,4 @@ fn check_lengths(packet: &[u8], end: usize) -> Result<(), PacketFault>
         return Err(PacketFault::BadPayloadLength);
     }
     Ok(())
-}
-
-/// The path header, and where the payload begins.
-pub(crate) fn read_headers(packet: &[u8]) -> Result<(Header, usize), PacketFault>
-    ensures exact { Gives (λ read. read.0) result (path_header_in packet.now) }
-    ensures end { IfOk result (λ read. read.1 ≡ path_place packet.now + header_len read.0) }
-    ensures within { IfOk result (λ read. read.1 ≤ length packet.now) }
-    ensures version { OnOk result (slice_index packet.now 0 < 16) }
-    ensures path_type { OnOk result (slice_index packet.now 8 ≡ 1) }
-    ensures headers { IfOk result (λ read. announced_len packet.now ≡ read.1) }
-    ensures rest { IfOk result
-        (λ read. read.1 + announced_payload packet.now ≡ length packet.now) }
-    ensures spells { IfOk result (λ read.
-        SpellsHeader (take (header_len read.0) (drop (path_place packet.now) packet.now)) read.0) }
-{
-    let place = path_place(packet)?;
-    let (_, rest) = packet.split_at(place);
-    let (header, len) = match decode(rest) {
-        Ok(front) => front,
-        Err(fault) => return Err(PacketFault::BadHeader(fault)),
-    };
-    check_lengths(packet, place + len)?;
-    Ok((header, place + len))
 }

@@ -7,6 +7,11 @@ use std::marker::Model;
 /// The type of the addresses of services; those of IPv4 and IPv6 have 0.
 const SERVICE: u8 = 1;
 
+/// The lengths of addresses of IPv4 and of IPv6.
+const IPV4_LEN: usize = 4;
+
+const IPV6_LEN: usize = 16;
+
 /// The address of a host in its AS: its type, below 4, and 4, 8, 12 or 16 bytes.
 ///
 /// Type 0 with 4 bytes is IPv4, type 0 with 16 bytes is IPv6, type 1 with 4 bytes is a service. No
@@ -70,7 +75,23 @@ impl HostAddress {
     }
 
     /// The address of this type and these bytes.
+    // The lengths of IPv4 and IPv6 are told apart, so that their bytes are copied without a call.
+    // Never inlined: its three copies would stand in a reader of a packet twice.
+    #[inline(never)]
     pub(crate) fn of(kind: u8, bytes: &[u8]) -> HostAddress
+        requires { IsHostAddress (record { kind = kind; bytes = bytes.now }) }
+        ensures { result ≡ record { kind = kind; bytes = bytes.now } }
+    {
+        match bytes.len() {
+            IPV4_LEN => HostAddress::copied(kind, &bytes[..IPV4_LEN]),
+            IPV6_LEN => HostAddress::copied(kind, &bytes[..IPV6_LEN]),
+            _ => HostAddress::copied(kind, bytes),
+        }
+    }
+
+    /// The address of this type, with a copy of these bytes.
+    #[inline(always)]
+    fn copied(kind: u8, bytes: &[u8]) -> HostAddress
         requires { IsHostAddress (record { kind = kind; bytes = bytes.now }) }
         ensures { result ≡ record { kind = kind; bytes = bytes.now } }
     {
