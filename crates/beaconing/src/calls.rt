@@ -37,6 +37,7 @@ pub fn originate(
     match Beacon::first(alloc, kind, timestamp, beta0, entry) {
         Ok(beacon) => Ok(beacon),
         Err(OrMemory::Memory) => Err(OrMemory::Memory),
+        // The entry was judged when it was made.
         Err(OrMemory::Refused(_)) => unreachable!(),
     }
 }
@@ -62,6 +63,7 @@ pub fn extend(
     match beacon.with_entry(alloc, entry) {
         Ok(beacon) => Ok(beacon),
         Err(OrMemory::Memory) => Err(OrMemory::Memory),
+        // The entry was judged when it was made.
         Err(OrMemory::Refused(_)) => unreachable!(),
     }
 }
@@ -83,6 +85,7 @@ pub fn terminate(
     match beacon.finish(alloc, entry) {
         Ok(segment) => Ok(segment),
         Err(OrMemory::Memory) => Err(OrMemory::Memory),
+        // The entry was judged when it was made.
         Err(OrMemory::Refused(_)) => unreachable!(),
     }
 }

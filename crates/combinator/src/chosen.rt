@@ -184,6 +184,7 @@ impl<'a, 's> Chosen<'a, 's> {
                     decided => decided,
                 }
             }
+            // Both have as many pieces.
             _ => unreachable!(),
         }
     }

@@ -123,10 +123,7 @@ impl<'a, 's> Group<'a, 's> {
         requires { HasOneTo half self.now }
         ensures { IsLeastUntil half self.now result.now }
     {
-        match least_until(self.pieces, half) {
-            Some(piece) => piece,
-            None => unreachable!(),
-        }
+        least_until(self.pieces, half).unwrap()
     }
 
     /// Compares this group with another one in the order of the search, by their heads.

@@ -36,9 +36,7 @@ fn empty_cache(alloc: Global, capacity: usize) -> Result<LruCache<u64, Arc<Entry
     ensures empty { IfOk result (λ cache. cache.entries ≡ []) }
     ensures room { IfOk result (λ cache. cache.cap ≡ capacity) }
 {
-    let Some(capacity) = NonZeroUsize::new(capacity) else {
-        unreachable!()
-    };
+    let capacity = NonZeroUsize::new(capacity).unwrap();
     LruCache::new(alloc, capacity)
 }
 

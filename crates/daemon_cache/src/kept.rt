@@ -136,6 +136,7 @@ impl KeptPath {
         for placed in self.pieces.as_slice() {
             if let Some(piece) = placed.piece_in(set) {
                 let Ok(()) = pieces.push(piece) else {
+                    // A kept path has at most three pieces.
                     unreachable!()
                 };
             }

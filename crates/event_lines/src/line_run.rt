@@ -105,9 +105,6 @@ impl LineRun {
         ensures { stage_behind self ≡ Open result }
     {
         let Self { net, .. } = self;
-        match net {
-            Some(net) => net,
-            None => unreachable!(),
-        }
+        net.unwrap()
     }
 }

@@ -67,6 +67,7 @@ pub fn kinds_text(alloc: Global, pieces: &Pieces<'_>) -> Result<String, AllocErr
     let mut text = String::new(alloc);
     for place in 0..pieces.len() {
         let Some(piece) = pieces.get(place) else {
+            // The loop counts the pieces.
             unreachable!()
         };
         text.push_str(letter(piece.kind()))?;

@@ -42,8 +42,5 @@ fn spell(header: &Header, room: &mut [u8]) -> usize
     ensures text { take result room.new ≡ spelling header.now }
     ensures fits { FitsBits header.now }
 {
-    match encode(header, room) {
-        Ok(len) => len,
-        Err(_) => unreachable!(),
-    }
+    encode(header, room).unwrap()
 }

@@ -102,10 +102,7 @@ fn first_six(code: &[u8; 32]) -> [u8; 6]
 fn clone_hasher(hasher: &Sha256) -> Sha256
     ensures { result ≡ hasher.now }
 {
-    match hasher.clone() {
-        Ok(copy) => copy,
-        Err(_) => unreachable!(),
-    }
+    hasher.clone().unwrap()
 }
 
 /// The key, filled up with zeros to a block of 64 bytes.

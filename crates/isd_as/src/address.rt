@@ -58,10 +58,7 @@ impl IsdAs {
     pub fn as_number(self) -> AsNumber
         ensures { result ≡ as_number_of self }
     {
-        match AsNumber::new(self.number % (1 << 48)) {
-            Some(as_number) => as_number,
-            None => unreachable!(),
-        }
+        AsNumber::of(self.number % (1 << 48))
     }
 
     /// Whether the ISD or the AS number is the wildcard 0.

@@ -47,13 +47,21 @@ impl Model for AsNumber {
 }
 
 impl AsNumber {
+    /// The AS of this number.
+    pub(crate) fn of(number: u64) -> AsNumber
+        requires { number < 2 ^ 48 }
+        ensures { result ≡ number }
+    {
+        AsNumber { number }
+    }
+
     /// The AS of this number, or nothing if the number has more than 48 bits.
     pub fn new(number: u64) -> Option<AsNumber>
         ensures fits { IsSome result ↔ (number < 2 ^ 48) }
         ensures value { IfSome result (λ a. a ≡ number) }
     {
         if number < 1 << 48 {
-            Some(AsNumber { number })
+            Some(AsNumber::of(number))
         } else {
             None
         }

@@ -165,11 +165,7 @@ fn read_isd(text: &str) -> Result<Isd, AddrFault>
 fn read_as_number(text: &str) -> Result<AsNumber, AddrFault>
     ensures { result ≡ as_number_at text.now }
 {
-    let number = as_number_of(text)?;
-    match AsNumber::new(number) {
-        Some(as_number) => Ok(as_number),
-        None => unreachable!(),
-    }
+    Ok(AsNumber::of(as_number_of(text)?))
 }
 
 /// Reads an address; the public call adds the clauses about spellings.

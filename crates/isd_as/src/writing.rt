@@ -43,6 +43,7 @@ impl fmt::Display for IsdAs {
         let text = self.text();
         match str::from_utf8(&text) {
             Ok(text) => f.write_str(text),
+            // An address is written in ASCII.
             Err(_) => unreachable!(),
         }
     }

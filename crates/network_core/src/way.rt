@@ -76,15 +76,13 @@ impl AnsweredWay {
         ensures { result ≡ self.now }
     {
         let answer = self.answer.answer();
-        match answer.paths.get(self.path) {
-            Some(path) => LentWay {
-                source: answer.source,
-                destination: answer.destination,
-                pieces: path.pieces(),
-                header: path.header(),
-                policy: &answer.policy,
-            },
-            None => unreachable!(),
+        let path = answer.paths.get(self.path).unwrap();
+        LentWay {
+            source: answer.source,
+            destination: answer.destination,
+            pieces: path.pieces(),
+            header: path.header(),
+            policy: &answer.policy,
         }
     }
 }

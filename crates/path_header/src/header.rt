@@ -112,9 +112,8 @@ impl Header {
         if infos.len() != lens.info_count() || hops.len() != lens.hop_count() {
             return Err(HeaderFault::Short);
         }
-        let (Ok(infos), Ok(hops)) = (ArrayVec::try_from(infos), ArrayVec::try_from(hops)) else {
-            unreachable!();
-        };
+        let infos = ArrayVec::try_from(infos).unwrap();
+        let hops = ArrayVec::try_from(hops).unwrap();
         Ok(Header::at_start(lens, infos, hops))
     }
 

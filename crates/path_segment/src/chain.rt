@@ -25,10 +25,7 @@ pub(crate) fn least_expiry_of(timestamp: u32, entries: &[Entry]) -> u64
     let expiries = entries
         .iter()
         .map(|entry| expiry(timestamp, entry.exp_time));
-    match expiries.min() {
-        Some(least) => least,
-        None => unreachable!(),
-    }
+    expiries.min().unwrap()
 }
 
 /// Whether every entry is live at the second `now`.

@@ -171,20 +171,14 @@ impl Segment {
     pub fn first_as(&self) -> IsdAs
         ensures { result ≡ first_as self.now }
     {
-        match self.entries() {
-            [first, ..] => first.ia,
-            [] => unreachable!(),
-        }
+        self.entries().first().unwrap().ia
     }
 
     /// The AS in which it ends.
     pub fn last_as(&self) -> IsdAs
         ensures { result ≡ last_as self.now }
     {
-        match self.entries().last() {
-            Some(last) => last.ia,
-            None => unreachable!(),
-        }
+        self.entries().last().unwrap().ia
     }
 
     /// The accumulator under which the entry at place `i` is authenticated; at the place after the

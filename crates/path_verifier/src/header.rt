@@ -34,10 +34,7 @@ fn header_of_lists(
     requires { IsHeader (first_header (lens_from lens) infos.items fields.items) }
     ensures { result ≡ first_header (lens_from lens) infos.items fields.items }
 {
-    match Header::of_lists(lens, infos, fields) {
-        Ok(header) => header,
-        Err(_) => unreachable!(),
-    }
+    Header::of_lists(lens, infos, fields).unwrap()
 }
 
 /// The number of hop fields of each piece, and 0 for each missing piece.

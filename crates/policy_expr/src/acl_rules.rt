@@ -31,6 +31,7 @@ fn decider_of(entries: &[AclEntry], hop: &WalkHop) -> usize
             return place;
         }
     }
+    // The last entry matches every hop.
     unreachable!()
 }
 

@@ -67,10 +67,7 @@ pub(crate) fn read_entries<A: Allocator>(
 {
     let mut entries = Vec::with_capacity(alloc, texts.len())?;
     for text in texts {
-        let Ok(entry) = read_entry(text.as_str()) else {
-            unreachable!()
-        };
-        entries.push(entry)?;
+        entries.push(read_entry(text.as_str()).unwrap())?;
     }
     Ok(entries)
 }

@@ -58,10 +58,7 @@ fn read_ia(text: &str) -> Result<IsdAs, PolicyFault>
 fn any_as() -> AsNumber
     ensures { result ≡ 0 }
 {
-    match AsNumber::new(0) {
-        Some(as_number) => as_number,
-        None => unreachable!(),
-    }
+    AsNumber::new(0).unwrap()
 }
 
 /// Reads one or two interfaces.

@@ -134,6 +134,7 @@ impl<A: Allocator + Clone> Reader<A> {
                 Ok(())
             }
             Token::Open => self.open(),
+            // The text was judged before: an item begins with no other token.
             _ => unreachable!(),
         }
     }
@@ -177,6 +178,7 @@ impl<A: Allocator + Clone> Reader<A> {
                 Ok(())
             }
             Token::Close => self.close(item),
+            // The text was judged before.
             Token::Other => unreachable!(),
             Token::Hop(_) | Token::Open => {
                 let before = self.level.whole(&self.alloc, item)?;
@@ -195,10 +197,7 @@ impl<A: Allocator + Clone> Reader<A> {
             self.new) }
     {
         self.item = Some(self.level.whole(&self.alloc, item)?);
-        let Some(outer) = self.levels.pop() else {
-            unreachable!()
-        };
-        self.level = outer;
+        self.level = self.levels.pop().unwrap();
         Ok(())
     }
 
@@ -207,9 +206,7 @@ impl<A: Allocator + Clone> Reader<A> {
         requires { IsOk (gives self.old []) }
         ensures { IfOk result (λ node. gives self.old [] ≡ Ok (tree_of node)) }
     {
-        let Some(item) = self.item.take() else {
-            unreachable!()
-        };
+        let item = self.item.take().unwrap();
         self.level.whole(&self.alloc, item)
     }
 }

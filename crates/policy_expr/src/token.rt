@@ -93,6 +93,7 @@ fn token_of_run(run: &[u8]) -> Token
             Ok(pred) => Token::Hop(pred),
             Err(_) => Token::Other,
         },
+        // A run is cut at ASCII letters, of a text that is ASCII.
         Err(_) => unreachable!(),
     }
 }

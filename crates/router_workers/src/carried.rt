@@ -155,6 +155,7 @@ impl<J: RunFacts> CarriedFlight<J> {
             PacketLocation::AtRouter(_) => return Err(self),
             PacketLocation::Delivered => End::Delivered(job.turns),
             PacketLocation::Refused(_, _, refusal) => End::Refused(refusal, job.turns),
+            // Routers lose no packet.
             PacketLocation::Lost => unreachable!(),
         };
         Ok(FlightEnd {

@@ -124,6 +124,7 @@ impl<'a> Flight<'a> {
         match self.place() {
             PacketLocation::AtRouter(stop) => match self.fabric.view(stop.ia, stop.router) {
                 Ok(view) => Some(view),
+                // It is at a router of its network.
                 Err(_) => unreachable!(),
             },
             _ => None,

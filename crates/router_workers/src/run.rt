@@ -248,5 +248,6 @@ fn end_of<J: RunFacts, R: Wait>(rt: &R, row: &[Option<FlightEnd<J>>], number: us
     for _ in rt.forever() {
         thread::yield_now();
     }
+    // `forever` does not end.
     unreachable!()
 }

@@ -86,10 +86,7 @@ pub fn worker_of(topology: &Topology, ia: IsdAs, router: u8, workers: usize) -> 
         result ≡ (info.position + router) % workers) }
     ensures within { result < workers }
 {
-    match carrier(topology, ia, router, workers) {
-        Some(worker) => worker,
-        None => unreachable!(),
-    }
+    carrier(topology, ia, router, workers).unwrap()
 }
 
 /// As `worker_of`, or nothing if the topology does not list the AS. It looks the AS up once.
@@ -240,6 +237,7 @@ pub(crate) fn work<J: RunFacts, R: Wait, G: Gate>(
         );
         pause(taken);
     }
+    // `forever` does not end.
     unreachable!()
 }
 
@@ -264,6 +262,7 @@ fn empty_inbox<J: RunFacts, R: Wait, G: Gate>(
         }
         taken = taken.saturating_add(1);
     }
+    // `forever` does not end.
     unreachable!()
 }
 

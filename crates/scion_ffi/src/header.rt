@@ -53,6 +53,7 @@ pub extern "C" fn scion_header_reverse(bytes: &mut [u8]) -> ScionAnswer
     header.known();
     match encode(&header, bytes) {
         Ok(_) => answer,
+        // It is as long as the header that was read there.
         Err(_) => unreachable!(),
     }
 }

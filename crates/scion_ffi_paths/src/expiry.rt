@@ -28,6 +28,7 @@ pub(crate) fn path_expiry(pieces: &[OwnedPiece]) -> u64
         [one] => piece_expiry(one),
         [one, two] => piece_expiry(one).min(piece_expiry(two)),
         [one, two, three] => { piece_expiry(one).min(piece_expiry(two).min(piece_expiry(three))) }
+        // A path has at most three pieces.
         _ => unreachable!(),
     }
 }

@@ -26,6 +26,7 @@ fn answer(alloc: Global, request: &PathsRequest) -> Result<String, RequestError>
     match combine(alloc, &set, src, dst, &options, limit) {
         Ok(list) => Ok(text::answer(alloc, &asked.segments, &list)?),
         Err(OrMemory::Memory) => Err(OrMemory::Memory),
+        // The request was judged when it was read.
         Err(OrMemory::Refused(_)) => unreachable!(),
     }
 }

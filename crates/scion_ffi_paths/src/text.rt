@@ -87,10 +87,8 @@ fn header(alloc: Global, header: &Header) -> Result<String, AllocError>
 {
     let mut room = [0u8; MAX_HEADER_LEN];
     let _ = header.encoded_len();
-    match encode(header, &mut room) {
-        Ok(len) => hex::encode(alloc, &room[..len]),
-        Err(_) => unreachable!(),
-    }
+    let len = encode(header, &mut room).unwrap();
+    hex::encode(alloc, &room[..len])
 }
 
 /// A path.

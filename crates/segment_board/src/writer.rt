@@ -68,6 +68,7 @@ fn add(writer: &mut StoreWriter, op: StoreOp) -> Result<(), StoreOp>
     match writer.append(BoardOp::Apply(op)) {
         Ok(()) => Ok(()),
         Err(BoardOp::Apply(op)) => Err(op),
+        // What is refused is the operation that was given.
         Err(BoardOp::Mark(_)) => unreachable!(),
     }
 }
@@ -149,6 +150,7 @@ impl BoardWriter {
         };
         match op {
             StoreOp::Register(value, _) => Err(AllocFailed { value }),
+            // What is given back is the registration.
             StoreOp::Sweep(_) => unreachable!(),
         }
     }

@@ -125,16 +125,15 @@ impl StepCommand {
     pub fn view(&self) -> RouterView<'_>
         ensures { result ≡ self.now.view }
     {
-        match RouterView::new(
-            self.parts.ia,
-            self.parts.router,
-            &self.parts.key,
-            lend(&self.parts.previous),
-            &self.parts.table,
-        ) {
-            Ok(view) => view,
-            Err(_) => unreachable!(),
-        }
+        let TurnParts {
+            ia,
+            router,
+            key,
+            previous,
+            table,
+            ..
+        } = &self.parts;
+        RouterView::new(*ia, *router, key, lend(previous), table).unwrap()
     }
 
     /// The second of the router's step.

@@ -86,10 +86,8 @@ fn spell(alloc: Global, packet: &WholePacket<'_>) -> Result<Vec<u8>, AllocError>
 {
     let len = packet_len(packet);
     let mut bytes = vec![in alloc; 0; len]?;
-    match write(packet, &mut bytes) {
-        Ok(_) => Ok(bytes),
-        Err(_) => unreachable!(),
-    }
+    let _len = write(packet, &mut bytes).unwrap();
+    Ok(bytes)
 }
 
 /// The bytes of the whole packet with the addresses, the path header and the payload of this frame,

@@ -38,6 +38,7 @@ fn flight_of<'a>(
     match Flight::new(alloc, topology, sent) {
         Ok(flight) => Ok(flight),
         Err(OrMemory::Memory) => Err(AllocError),
+        // The network judged the shipment when it was sent.
         Err(OrMemory::Refused(_)) => unreachable!(),
     }
 }
