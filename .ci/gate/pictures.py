@@ -1,16 +1,20 @@
 """Holds the pictures of docs/ to the networks that they show: an SVG has the ASes, the routers and
 the links of its description beside it, and the description of forty ASes is what `scionet_view
-network` prints of the topology that it describes. Where `dot` is there, it also has these and
-random networks laid out: no line may lie upon another one. The last line has the numbers of
-pictures and of wrong ones; the status is 1 where one is wrong."""
+network` prints of the topology that it describes. Of random networks, also of many ASes, it draws
+parts: each has to have the ASes and the links that a search here finds, those outside the part in
+gray, and each layer the ASes at its distance from the core, in places of their own. Where `dot` is
+there, it also has all of these laid out: no line may lie upon another one. The last line has the
+numbers of pictures and of wrong ones; the status is 1 where one is wrong."""
 import collections
 import html
+import itertools
 import json
 import random
 import re
 import shlex
 from collections.abc import Iterable, Sequence
 from pathlib import Path
+from typing import Any
 
 from gate import TOP, children
 from gate.machine import Machine
@@ -29,6 +33,16 @@ POINT = r'^"(?P<a>[^"#]+)#(?P<an>\d+)~(?P<b>[^"#]+)#(?P<bn>\d+)" \[shape=point'
 ARROW = (r'^"(?P<c>[^"#]+)" -- "(?P<d>[^"#]+)" \[dir=forward, '
          r"taillabel=(?P<cn>\d+), headlabel=(?P<dn>\d+)")
 LINK = re.compile(f"{POINT}|{ARROW}", re.M)
+
+# The same of any form of a description: an AS with its look, whether its box is gray, and a link,
+# by its interfaces.
+AS = re.compile(r'^(?P<front>.*?)"(?P<ia>[\d:a-f-]+)" \[label="[^"]+"(?P<look>.*)$', re.M)
+INTERFACES = re.compile(r'^"([^"#~ ]+#\d+)" -- "([^"#~ ]+#\d+)" ', re.M)
+TIP = re.compile(r'tooltip="([^"~]+)~([^"~]+)"')
+PLACE = re.compile(r'pos="(-?\d+),-(\d+)\.(\d)!"')
+
+# The largest number of ASes that are not in layers, and the last layer; the ASes of large networks.
+UNLAYERED, LAST, LARGE_ASES = 60, 8, (70, 150, 1000)
 
 # The random networks that are laid out, and the share of their core links that begin at the other
 # end.
@@ -90,13 +104,112 @@ def random_network(chance: random.Random) -> str:
     return json.dumps(line)
 
 
-def descriptions() -> Iterable[tuple[str, str]]:
-    """What is laid out: the pictures of docs/, and those of random networks, by their names."""
-    for name in sorted({*PICTURES.values()}):
-        yield f"docs/{name}.dot", Path("docs", f"{name}.dot").read_text(encoding="utf-8")
-    for number in range(NETWORKS):
-        given = random_network(random.Random(f"{SEED} {number}")).encode()
-        yield f"network {number}", children.output([VIEW, "network"], given).decode()
+def large_network(chance: random.Random, count: int) -> str:
+    """A topology of so many ASes, of which each tenth is a core AS. The core is a ring, and each
+    other AS has one or two parents of its ISD that stand before it; some have none."""
+    interfaces: collections.Counter[str] = collections.Counter()
+
+    def end(ia: str) -> dict[str, Any]:
+        interfaces[ia] += 1
+        return {"ia": ia, "if": interfaces[ia], "router": 0}
+
+    names = [f"{1 + place % 3}-ff00:0:{place + 1:x}" for place in range(count)]
+    core, links = names[: count // 10], []
+    for one, other in zip(core, core[1:] + core[:1]):
+        links.append({"kind": "core", "a": end(one), "b": end(other)})
+    for place in range(len(core), count):
+        above = [it for it in names[place // 9 : place // 2] if it[0] == names[place][0]]
+        for parent in chance.sample(above, chance.choice((0, 1, 1, 1, 2)) if place % 9 else 1):
+            links.append({"kind": "child", "a": end(parent), "b": end(names[place])})
+    ases = [{"ia": it, "core": it in core, "exp": 63, "key": "6b", "routers": 1} for it in names]
+    return json.dumps({"ases": ases, "links": links})
+
+
+class Network:
+    """A topology, and which ASes are near others."""
+
+    def __init__(self, text: str) -> None:
+        self.text = text
+        line = json.loads(text)
+        self.core = {it["ia"]: it["core"] for it in line["ases"]}
+        self.links = [[(link[it]["ia"], link[it]["if"]) for it in "ab"] for link in line["links"]]
+        self.beside: dict[str, set[str]] = collections.defaultdict(set)
+        for (one, _), (other, _) in self.links:
+            self.beside[one].add(other)
+            self.beside[other].add(one)
+
+    def distances(self, start: Iterable[str]) -> dict[str, int]:
+        """How many links lead to each AS from the nearest of these."""
+        found, front = {}, set(start)
+        for distance in itertools.count():
+            found |= dict.fromkeys(front, distance)
+            front = {it for ia in front for it in self.beside[ia]} - found.keys()
+            if not front:
+                return found
+
+    def parts(self, chance: random.Random) -> Iterable[tuple[list[str], set[str]]]:
+        """Words of `network`, and the ASes of the part that they name."""
+        names = [*self.core]
+        yield [], {*names}
+        isd = chance.choice(names).split("-")[0]
+        yield ["--isd", isd], {it for it in names if it.split("-")[0] == isd}
+        core = [it for it in names if self.core[it]]
+        for start, words in ((core, ["--core"]), ([chance.choice(names)], ["--around"])):
+            hops = chance.randint(0, 3)
+            near = {it for it, distance in self.distances(start).items() if distance <= hops}
+            words += start if words == ["--around"] else []
+            yield [*words, "--hops", str(hops)], near
+
+    def faults(self, description: str, inside: set[str]) -> Iterable[str]:
+        """What is wrong with the picture of a part."""
+        links = {
+            tuple(f"{ia}#{number}" for ia, number in ends)
+            for ends in self.links if any(ia in inside for ia, _ in ends)
+        }
+        drawn_ases = inside | {end.split("#")[0] for link in links for end in link}
+        found = {it["ia"]: "gray" in it["front"] + it["look"] for it in AS.finditer(description)}
+        if found != {ia: ia not in inside for ia in drawn_ases}:
+            yield f"{len(found)} ASes, and not the {len(drawn_ases)} of the part and beside it"
+        told = {*INTERFACES.findall(description), *TIP.findall(description)}
+        for link in LINK.finditer(description):
+            ends = "ab" if link["a"] else "cd"
+            told.add(tuple(f"{link[it]}#{link[f'{it}n']}" for it in ends))
+        if told != links:
+            yield f"{len(told)} links, and not the {len(links)} of the part"
+        if ("layout=neato" in description) != (len(drawn_ases) > UNLAYERED):
+            yield "a wrong form"
+        if "layout=neato" in description:
+            yield from self.misplaced(description)
+
+    def misplaced(self, description: str) -> Iterable[str]:
+        """ASes that are not in the rows of their layer, or in one place with others."""
+        near = self.distances(it for it, core in self.core.items() if core)
+        places = {it["ia"]: PLACE.search(it["look"]) for it in AS.finditer(description)}
+        spots = {ia: tuple(map(int, it.groups())) for ia, it in places.items() if it}
+        labels = re.findall(r'^"layer (\d)" .*pos="-2,-(\d+)\.0!"', description, re.M)
+        rows = sorted((int(row), int(layer)) for layer, row in labels)
+        if len({*spots.values()}) != len(places):
+            yield "ASes in one place"
+        for ia, (_, row, _) in spots.items():
+            layer = max((it for it in rows if it[0] <= row), default=(0, 0))[1]
+            if layer != min(near.get(ia, LAST), LAST):
+                yield f"{ia} in layer {layer}"
+                return
+
+
+def drawn_parts() -> Iterable[tuple[str, str, list[str]]]:
+    """Pictures of parts of random networks: their names, descriptions and faults."""
+    networks = [(f"network {it}", random_network) for it in range(NETWORKS)]
+    chances = {name: random.Random(f"{SEED} {name}") for name, _ in networks}
+    texts = [(name, make(chances[name])) for name, make in networks]
+    for count in LARGE_ASES:
+        texts.append((f"network of {count}", large_network(random.Random(f"{SEED} {count}"), count)))
+    for name, text in texts:
+        network = Network(text)
+        for words, inside in network.parts(random.Random(f"{SEED} parts {name}")):
+            description = children.output([VIEW, "network", *words], text.encode()).decode()
+            faults = [*network.faults(description, inside)]
+            yield " ".join([name, *words]), description, faults
 
 
 def fault_of(picture: str, description: str) -> str:
@@ -117,8 +230,15 @@ def main(words: Sequence[str]) -> int:
     large = Path("docs", f"{LARGE}.dot").read_bytes()
     if children.output([VIEW, "network"], topology(large.decode()).encode()) != large:
         wrong.append(f"docs/{LARGE}.dot is not what is printed of its topology")
-    for name, description in descriptions() if machine.has("dot") else ():
+    descriptions = [
+        (f"docs/{name}.dot", Path("docs", f"{name}.dot").read_text(encoding="utf-8"))
+        for name in sorted({*PICTURES.values()})
+    ]
+    for name, description, faults in drawn_parts():
         count += 1
+        wrong += [f"{name}: {it}" for it in faults]
+        descriptions.append((name, description))
+    for name, description in descriptions if machine.has("dot") else ():
         if lines := overlaid(description):
             wrong.append(f"{name}: lines lie upon others: {', '.join(lines[:3])}")
     for it in wrong:

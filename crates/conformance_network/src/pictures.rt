@@ -1,5 +1,5 @@
 use isd_as::IfId;
-use network_view::{MAX_DETAILED, Router, network_dot};
+use network_view::{Centre, Extent, MAX_DETAILED, Router, network_dot};
 use policy_expr::WalkHop;
 use scion_topology::Topology;
 use std::alloc::{AllocError, Global};
@@ -79,7 +79,18 @@ fn expect_picture(
     at: Option<Router>,
     picture: &str,
 ) -> Result<(), Fail> {
-    let text = network_dot(alloc, topology.ases(), topology.links(), passed, at)?;
+    let extent = Extent {
+        centre: Centre::Whole,
+        hops: 0,
+    };
+    let text = network_dot(
+        alloc,
+        topology.ases(),
+        topology.links(),
+        &extent,
+        passed,
+        at,
+    )?;
     assert_eq!(rt; text.as_str(), picture);
     Ok(())
 }

@@ -1,1 +1,4 @@
 pub mod Addresses
+pub mod Nearness
+pub mod Cells
+pub mod Drawing

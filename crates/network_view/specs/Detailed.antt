@@ -41,15 +41,20 @@ unfoldable pub name_look : Bool → List ℕ
 name_look true = codes " core\", shape=plain, fixedsize=false, fontsize=13]; "
 name_look false = codes "\", shape=plain, fixedsize=false, fontsize=13]; "
 
+-- the look of an AS that is not in the part that is shown, and is joined to one that is: gray
+unfoldable pub beside_box : (inside : Bool) → List ℕ
+beside_box true = []
+beside_box false = codes "color=gray; node [color=gray, fontcolor=gray]; "
+
 -- the name of an AS in its box
 unfoldable pub name_text : AsEntry → List ℕ
 name_text one = as_name one.ia ++ (codes " [label=\"" ++ (canonical one.ia ++ name_look one.core))
 
 -- an AS: a box with its name and its routers, in the box of its ISD
-unfoldable pub detailed_as : Option Router → AsEntry → List ℕ
-detailed_as at one =
-    isd_text (isd_of one.ia) ++ (box_text one.ia ++ (box_look one.core ++ (name_text one
-    ++ (routers_text at one.ia one.routers ++ codes "} }\n"))))
+unfoldable pub detailed_as : Option Router → (inside : Bool) → AsEntry → List ℕ
+detailed_as at inside one =
+    isd_text (isd_of one.ia) ++ (box_text one.ia ++ (box_look one.core ++ (beside_box inside
+    ++ (name_text one ++ (routers_text at one.ia one.routers ++ codes "} }\n")))))
 
 -- ---- links
 

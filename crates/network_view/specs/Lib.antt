@@ -3,4 +3,7 @@ pub mod Names
 pub mod Looks
 pub mod Detailed
 pub mod Overview
+pub mod Extent
+pub mod Layers
+pub mod Layered
 pub mod Dot

@@ -10,3 +10,8 @@ passed_look false = []
 unfoldable pub state_look : Bool → List ℕ
 state_look true = codes "];\n"
 state_look false = codes ", style=dashed];\n"
+
+-- the look of an AS that is not in the part that is shown, and is joined to one that is
+unfoldable pub beside_look : (inside : Bool) → List ℕ
+beside_look true = []
+beside_look false = codes ", fontcolor=gray"

@@ -9,7 +9,7 @@ use Rattle.scion_topology.specs.declared.network.LinkClass.{LinkClass}
 use Rattle.scion_topology.specs.declared.network.LinkClass.TheVariants.{Core, Child}
 use Rattle.policy_expr.specs.declared.hop.WalkHop.{WalkHop}
 use Rattle.network_view.specs.declared.marks.Router.{Router}
-use Rattle.network_view.specs.Looks.{passed_look, state_look}
+use Rattle.network_view.specs.Looks.{beside_look, passed_look, state_look}
 use Rattle.network_view.specs.Marks.{is_in, was_passed}
 use Rattle.network_view.specs.Names.{as_name, isd_text}
 
@@ -24,10 +24,10 @@ here_look true = codes ", style=filled, fillcolor=red]; }\n"
 here_look false = codes "]; }\n"
 
 -- an AS: a node with its name, in the box of its ISD
-unfoldable pub overview_as : Option Router → AsEntry → List ℕ
-overview_as at one =
+unfoldable pub overview_as : Option Router → (inside : Bool) → AsEntry → List ℕ
+overview_as at inside one =
     isd_text (isd_of one.ia) ++ (as_name one.ia ++ (codes " [label=\"" ++ (canonical one.ia
-    ++ (core_look one.core ++ here_look (is_in at one.ia)))))
+    ++ (core_look one.core ++ (beside_look inside ++ here_look (is_in at one.ia))))))
 
 -- the name of the point of a link between core ASes: its interfaces
 unfoldable pub point_name : Link → List ℕ

@@ -1,9 +1,9 @@
 //! The picture of a small network, with its routers and its interfaces.
-#![tactic(auto, unfolding(crate::specs::Detailed::marked_text, crate::specs::Detailed::router_text, crate::specs::Detailed::routers_text, crate::specs::Detailed::box_look, crate::specs::Detailed::name_look, crate::specs::Detailed::name_text, crate::specs::Detailed::interface_text, crate::specs::Detailed::way_down, crate::specs::Detailed::way_up, crate::specs::Detailed::class_look, crate::specs::Detailed::line_text))]
+#![tactic(auto, unfolding(crate::specs::Detailed::marked_text, crate::specs::Detailed::router_text, crate::specs::Detailed::routers_text, crate::specs::Detailed::beside_box, crate::specs::Detailed::box_look, crate::specs::Detailed::name_look, crate::specs::Detailed::name_text, crate::specs::Detailed::interface_text, crate::specs::Detailed::way_down, crate::specs::Detailed::way_up, crate::specs::Detailed::class_look, crate::specs::Detailed::line_text))]
 
 ghost use Rattle.std.specs.Prelude.{◌≡◌, ◌++◌, OnOk};
 ghost use Rattle.std.specs.String.{string_bytes};
-ghost use Rattle.network_view.specs.Detailed.{box_look, class_look, detailed_as, detailed_layout, detailed_legend, detailed_link, interface_text, line_text, marked_text, name_look, name_text, router_text, routers_text, way_down, way_up};
+ghost use Rattle.network_view.specs.Detailed.{beside_box, box_look, class_look, detailed_as, detailed_layout, detailed_legend, detailed_link, interface_text, line_text, marked_text, name_look, name_text, router_text, routers_text, way_down, way_up};
 
 use crate::looks::{passed_look, state_look};
 use crate::marks::{Router, is_at, was_passed};
@@ -92,6 +92,17 @@ fn as_looks(core: bool) -> (&'static str, &'static str)
     }
 }
 
+/// The look of an AS: one that is not in the part that is shown is gray.
+fn beside_box(inside: bool) -> &'static str
+    ensures { result.now ≡ beside_box inside }
+{
+    if inside {
+        ""
+    } else {
+        "color=gray; node [color=gray, fontcolor=gray]; "
+    }
+}
+
 /// Adds the name of an AS to its box.
 fn add_name(text: &mut String, one: &AsEntry) -> Result<(), AllocError>
     ensures { OnOk result (string_bytes text.new ≡ string_bytes text.old ++ name_text one.now) }
@@ -105,15 +116,17 @@ fn add_name(text: &mut String, one: &AsEntry) -> Result<(), AllocError>
 pub(crate) fn add_as(
     text: &mut String,
     at: &Option<Router>,
+    inside: bool,
     one: &AsEntry,
 ) -> Result<(), AllocError>
     ensures { OnOk result
-        (string_bytes text.new ≡ string_bytes text.old ++ detailed_as at.now one.now) }
+        (string_bytes text.new ≡ string_bytes text.old ++ detailed_as at.now inside one.now) }
 {
     let ia = one.ia;
     add_isd(text, ia.isd())?;
     add_box(text, ia)?;
     text.push_str(as_looks(one.core).0)?;
+    text.push_str(beside_box(inside))?;
     add_name(text, one)?;
     add_routers(text, at, ia, one.routers)?;
     text.push_str("} }\n")

@@ -13,11 +13,16 @@
 
 mod detailed;
 mod dot;
+mod extent;
 pub mod laws;
+mod layered;
+mod layers;
 mod looks;
 mod marks;
 mod names;
 mod overview;
+mod scene;
 
-pub use dot::{MAX_DETAILED, network_dot};
+pub use dot::{MAX_DETAILED, MAX_OVERVIEW, network_dot};
+pub use extent::{Centre, Extent, has_central};
 pub use marks::{Router, was_passed};

@@ -5,7 +5,7 @@ ghost use Rattle.std.specs.Prelude.{◌≡◌, ◌++◌, OnOk};
 ghost use Rattle.std.specs.String.{string_bytes};
 ghost use Rattle.network_view.specs.Overview.{arrow_look, between_text, child_link, core_link, core_look, half_text, here_look, line_down, link_look, overview_as, overview_layout, overview_legend, overview_link, point_look, point_name, point_text};
 
-use crate::looks::{passed_look, state_look};
+use crate::looks::{beside_look, passed_look, state_look};
 use crate::marks::{Router, is_in, was_passed};
 use crate::names::{add_as_name, add_isd};
 use policy_expr::WalkHop;
@@ -55,21 +55,23 @@ fn here_look(here: bool) -> &'static str
 pub(crate) fn add_as(
     text: &mut String,
     at: &Option<Router>,
+    inside: bool,
     one: &AsEntry,
 ) -> Result<(), AllocError>
     ensures { OnOk result
-        (string_bytes text.new ≡ string_bytes text.old ++ overview_as at.now one.now) }
+        (string_bytes text.new ≡ string_bytes text.old ++ overview_as at.now inside one.now) }
 {
     let ia = one.ia;
     let core = core_look(one.core);
+    let beside = beside_look(inside);
     let here = here_look(is_in(*at, ia));
     add_isd(text, ia.isd())?;
     add_as_name(text, ia)?;
-    write!(text, " [label=\"{ia}{core}{here}")
+    write!(text, " [label=\"{ia}{core}{beside}{here}")
 }
 
 /// Adds the name of the point of a link between core ASes: its interfaces.
-fn add_point_name(text: &mut String, link: &Link) -> Result<(), AllocError>
+pub(crate) fn add_point_name(text: &mut String, link: &Link) -> Result<(), AllocError>
     ensures { OnOk result (string_bytes text.new ≡ string_bytes text.old ++ point_name link.now) }
 {
     let (a, b) = (link.a, link.b);
