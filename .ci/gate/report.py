@@ -3,10 +3,11 @@
 Each network is beaconed by `scionet_view beacons`, and some of its links are cut. Each line of
 `scionet_view report` has to be what is computed here from the answers of `scionet run`: the paths
 none of whose links is down, the best of them, how many links may be lost before none is left, the
-links that all of them cross, and at the end the links that most pairs need; with a policy and
-without one, and also where there are as many paths as the limit. Of some pairs the answers are
-compared with the search of `answers.py` over the segments, which tries every list of pieces. Then a
-link between two ISDs is cut: exactly the pairs that need it lose their paths.
+links that all of them cross, the ASes that all of them pass, and at the end the links that most
+pairs need; with a policy and without one, and also where there are as many paths as the limit. The
+same has to stand in the lines of `--json`. Of some pairs the answers are compared with the search
+of `answers.py` over the segments, which tries every list of pieces. Then a link between two ISDs is
+cut: exactly the pairs that need it lose their paths, and so `tools/compare_reports.py` says.
 
 The last line has the number of lines, of networks, and of what was wrong; the status is 1 where
 something was."""
@@ -16,7 +17,10 @@ import json
 import os
 import random
 import re
+import sys
+import tempfile
 from collections.abc import Iterable, Iterator, Sequence
+from pathlib import Path
 from typing import Any
 
 from gate import TOP, answers, children, networks
@@ -31,6 +35,10 @@ ASES, ANSWER, NOW, LIFETIME, NAMED = 16, 64, 1000, 675, 10
 
 # The pairs of a network whose walks are searched; the most lost links that a report looks at.
 SEARCHED, LOST = 12, 3
+
+# What is printed of a network without segments; the script that compares two reports.
+BARE = "no segment is stored: 'scionet_view beacons' prints the lines that make some"
+COMPARE = TOP / "tools/compare_reports.py"
 
 # A core link of this network is the only one between its two ISDs.
 PAIR, CORE = "examples/pair.txt", "1-ff00:0:110#2~2-ff00:0:210#1"
@@ -131,10 +139,13 @@ class Network:
         until = str(self.until(best)) if best else "unknown"
         line += f" {count} hops {hops} until {until} survives"
         if is_full:
-            return f"{line} unknown needs unknown", []
+            return f"{line} unknown needs unknown through unknown", []
         ends = set.intersection(*crossed)
         needed = [named(link.ends) for link in self.topology.links if link.ends[0] in ends]
-        return f"{line} {survived(crossed)} needs " + " ".join([str(len(needed)), *needed]), needed
+        passed = set.intersection(*({hop.ia for hop in walk} for walk in open_walks)) - {*pair}
+        through = [ia for ia in self.topology.names if ia in passed]
+        line += f" {survived(crossed)} needs " + " ".join([str(len(needed)), *needed])
+        return line + " through " + " ".join([str(len(through)), *through]), needed
 
     def summary(self, needs: list[list[str]]) -> list[str]:
         """The lines at the end, for the links that the pairs need."""
@@ -177,6 +188,8 @@ def compared(network: Network, pairs: list[Pair], limit: int, policy: Policy,
     walks = list(network.asked(pairs, limit, policy))
     given = "\n".join(network.lines) + "\n"
     found = ran([VIEW, "report", *words, *options(policy)], given)
+    if next(network.segments(), None) is None:
+        return 1, [] if found == [BARE] else [f"{found[:1]}, not {BARE!r}"]
     told = itertools.chain(found, itertools.repeat(""))
     rows = [network.line(pair, it, limit, one) for pair, it, one in zip(pairs, walks, told)]
     is_known = limit < ANSWER or all(len(it) < ANSWER for it in walks)
@@ -202,6 +215,7 @@ def tried(seed: int, number: int) -> Compared:
     rows.append(network.searched(rng.sample(pairs, min(SEARCHED, len(pairs)))))
     some = rng.randint(1, 3)
     rows.append(compared(network, pairs, some, {}, ["--limit", str(some)]))
+    rows += [compared_json(network, limit) for limit in (ANSWER, some)]
     walks = [walk for answer in network.asked(pairs, ANSWER, {}) for walk in answer]
     if walks:
         walk = rng.choice(walks)
@@ -230,7 +244,60 @@ def cut_core() -> Compared:
             wrong.append(f"needs the core link, or does not: {line}")
         if later != (f"{one} {other} paths 0" if is_apart else line):
             wrong.append(f"behind a cut: {later!r}, not {line!r}")
-    return len(before) + len(after), wrong
+    return len(before) + len(after), wrong + told_cut(lines, lines + [cut])
+
+
+def link_text(link: dict[str, Any]) -> str:
+    """A link of a line of JSON, as a line of text names it."""
+    return named((link[end]["ia"], link[end]["if"]) for end in "ab")
+
+
+def unknown(value: Any) -> str:
+    """A number of a line of JSON, which may be unknown, as a line of text has it."""
+    return "unknown" if value is None else str(value)
+
+
+def as_text(line: str) -> str:
+    """The line of text that a line of JSON stands for."""
+    one = json.loads(line)
+    if "link" in one:
+        return f"link {link_text(one['link'])} pairs {one['pairs']}"
+    told = f"{one['from']} {one['to']} paths {one['paths']}" + ("+" if one["more"] else "")
+    if not one["paths"]:
+        return told
+    told += f" hops {unknown(one['hops'])} until {unknown(one['until'])} survives "
+    told += unknown(one["survives"]) + ("+" if one["survives"] == LOST else "")
+    for name, items in (("needs", one["needs"]), ("through", one["through"])):
+        words = [it if isinstance(it, str) else link_text(it) for it in items or ()]
+        told += " ".join([f" {name}", "unknown" if items is None else str(len(items)), *words])
+    return told
+
+
+def compared_json(network: Network, limit: int) -> Compared:
+    """The lines of JSON of a network that are not those of text."""
+    given = "\n".join(network.lines) + "\n"
+    words = [VIEW, "report", "--limit", str(limit)]
+    texts, objects = ran(words, given), ran([*words, "--json"], given)
+    if texts == [BARE]:
+        texts = [as_text(it) for it in objects if '"paths":0,' in it]
+    both = [*itertools.zip_longest(map(as_text, objects), texts)]
+    return len(both), [f"--json: {one!r}, not {other!r}" for one, other in both if one != other]
+
+
+def told_cut(before: list[str], after: list[str]) -> list[str]:
+    """What the comparison of two reports says wrongly of a link between two ISDs that is cut."""
+    with tempfile.TemporaryDirectory() as folder:
+        paths = [Path(folder, it) for it in ("before", "after")]
+        for path, lines in zip(paths, (before, after)):
+            report = ran([VIEW, "report", "--json"], "\n".join(lines) + "\n")
+            path.write_text("\n".join(report) + "\n")
+        done = children.run([sys.executable, str(COMPARE), *map(str, paths)], b"")
+    found = done.stdout.decode().splitlines()
+    lost = [line for line in found if ": lost; " in line]
+    apart = [it for it in lost if it.split(" ")[0][0] != it.split(" ")[1][0]]
+    if done.returncode != 1 or len(lost) != len(found) - 1 or lost != apart or not lost:
+        return [f"compare_reports: {found}"]
+    return []
 
 
 def refusals() -> Iterator[str]:
@@ -249,6 +316,8 @@ def refusals() -> Iterator[str]:
         found = (done.stderr if status else done.stdout).decode()
         if done.returncode != status or found != text:
             yield f"{words}: status {done.returncode}, {found!r}, not {text!r}"
+    if (found := ran([VIEW, "report"], lines.splitlines()[0])) != [BARE]:
+        yield f"a network without segments: {found}"
 
 
 def main(words: Sequence[str]) -> int:

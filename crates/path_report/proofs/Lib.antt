@@ -4,4 +4,5 @@ pub mod Surviving
 pub mod Reporting
 pub mod Opening
 pub mod Ranking
+pub mod Passing
 pub mod Writing

@@ -11,8 +11,7 @@ use Rattle.scion_topology.specs.declared.network.Link.{Link}
 use Rattle.network_core.specs.Value.{NetValue}
 use Rattle.path_report.specs.declared.pair.AsPair.{AsPair}
 use Rattle.path_report.specs.Pair.{PairValue, IsPairReport}
-use Rattle.path_report.specs.Line.{pair_line}
-use Rattle.path_report.specs.Report.{ReportOptionsValue, IsReport, BeginsLines, BeginsReport, pairs_of}
+use Rattle.path_report.specs.Report.{ReportOptionsValue, IsReport, BeginsLines, BeginsReport, pair_text, pairs_of}
 use Rattle.path_report.specs.inner.Named.{IsSummary}
 use Rattle.path_report.specs.inner.Reports.{BeginsLine, WroteLine, WroteLines}
 
@@ -51,8 +50,8 @@ wrote_next net wanted pairs i pair reports new report held mid holds within is b
           ∙ ap (λ one. take i pairs ++ one ∷ []) wrote.pair_is ∙ sym next;
       each = All-append holds_of reports (report ∷ []) before.each
           (All-cons holds_of report [] wrote.is (All-nil holds_of));
-      kept = subst (λ text. Appends held holds text) (flat_map_more pair_line [] reports report)
-          (Appends-trans held mid holds (flat_map pair_line reports) (pair_line report) before.kept wrote.kept);
+      kept = subst (λ text. Appends held holds text) (flat_map_more (pair_text wanted.json) [] reports report)
+          (Appends-trans held mid holds (flat_map (pair_text wanted.json) reports) (pair_text wanted.json report) before.kept wrote.kept);
     })
 
 -- what was written of these lines begins a report
@@ -61,7 +60,7 @@ lines_begin : (net : NetValue) (wanted : ReportOptionsValue) (pairs later : List
     → WroteLines net wanted pairs reports held holds
     → (text : List ℕ) × (Appends held holds text × BeginsLines net wanted text)
 lines_begin net wanted pairs later reports held holds all wrote = (
-  flat_map pair_line reports,
+  flat_map (pair_text wanted.json) reports,
   (
     wrote.kept,
     record {
@@ -69,8 +68,8 @@ lines_begin net wanted pairs later reports held holds all wrote = (
       later = later;
       pairs = ap (λ front. front ++ later) wrote.pairs_are ∙ all;
       each = wrote.each;
-      most = length (flat_map pair_line reports);
-      says = sym (take-length (flat_map pair_line reports));
+      most = length (flat_map (pair_text wanted.json) reports);
+      says = sym (take-length (flat_map (pair_text wanted.json) reports));
     },
   ),
 )
@@ -95,17 +94,17 @@ part_behind : (net : NetValue) (wanted : ReportOptionsValue) (pairs : List AsPai
     → BeginsLine net wanted pair part
     → (text : List ℕ) × (Appends held holds text × BeginsLines net wanted text)
 part_behind net wanted pairs i pair reports held mid holds part all within is before kept (inl none) = (
-  flat_map pair_line reports ++ part,
+  flat_map (pair_text wanted.json) reports ++ part,
   (
-    Appends-trans held mid holds (flat_map pair_line reports) part before.kept kept,
+    Appends-trans held mid holds (flat_map (pair_text wanted.json) reports) part before.kept kept,
     record {
       reports = reports;
       later = drop i pairs;
       pairs = ap (λ front. front ++ drop i pairs) before.pairs_are ∙ take-append-drop i pairs ∙ all;
       each = before.each;
-      most = length (flat_map pair_line reports);
-      says = ap (λ it. flat_map pair_line reports ++ it) none ∙ append-nil (flat_map pair_line reports)
-          ∙ sym (take-length (flat_map pair_line reports));
+      most = length (flat_map (pair_text wanted.json) reports);
+      says = ap (λ it. flat_map (pair_text wanted.json) reports ++ it) none ∙ append-nil (flat_map (pair_text wanted.json) reports)
+          ∙ sym (take-length (flat_map (pair_text wanted.json) reports));
     },
   ),
 )
@@ -113,9 +112,9 @@ part_behind net wanted pairs i pair reports held mid holds part all within is be
     let holds_of : PairValue → Type 0 = IsPairReport net wanted.rules wanted.limit in
     let next : take (i + 1) pairs ≡ take i pairs ++ pair ∷ [] =
     take_more pairs i pair within ∙ ap (λ it. take i pairs ++ it ∷ []) (sym is) in (
-      flat_map pair_line reports ++ part,
+      flat_map (pair_text wanted.json) reports ++ part,
       (
-        Appends-trans held mid holds (flat_map pair_line reports) part before.kept kept,
+        Appends-trans held mid holds (flat_map (pair_text wanted.json) reports) part before.kept kept,
         record {
           reports = reports ++ report ∷ [];
           later = drop (i + 1) pairs;
@@ -125,10 +124,10 @@ part_behind net wanted pairs i pair reports held mid holds part all within is be
               ∙ take-append-drop (i + 1) pairs ∙ all;
           each = All-append holds_of reports (report ∷ []) before.each
               (All-cons holds_of report [] true_of (All-nil holds_of));
-          most = length (flat_map pair_line reports) + most;
-          says = ap (λ it. flat_map pair_line reports ++ it) says
-              ∙ sym (take-append-add (flat_map pair_line reports) (pair_line report) most)
-              ∙ ap (take (length (flat_map pair_line reports) + most)) (flat_map_more pair_line [] reports report);
+          most = length (flat_map (pair_text wanted.json) reports) + most;
+          says = ap (λ it. flat_map (pair_text wanted.json) reports ++ it) says
+              ∙ sym (take-append-add (flat_map (pair_text wanted.json) reports) (pair_text wanted.json report) most)
+              ∙ ap (take (length (flat_map (pair_text wanted.json) reports) + most)) (flat_map_more (pair_text wanted.json) [] reports report);
         },
       ),
     )
@@ -146,26 +145,26 @@ begun_behind net wanted pairs i pair reports held mid holds all within is before
 
 report_is : (net : NetValue) (wanted : ReportOptionsValue) (reports : List PairValue) (ranking : List ℕ)
     (held holds : Option (List ℕ)) → WroteLines net wanted (pairs_of wanted net.network.ases) reports held holds
-    → IsSummary net.network.links reports ranking
-    → IsReport net wanted (flat_map pair_line reports ++ ranking)
+    → IsSummary wanted.json net.network.links reports ranking
+    → IsReport net wanted (flat_map (pair_text wanted.json) reports ++ ranking)
 report_is net wanted reports ranking held holds wrote summary = record {
   reports = reports;
   pairs = wrote.pairs_are;
   each = wrote.each;
   ranked = summary.0;
   ranking = summary.1.0;
-  says = ap (λ last. flat_map pair_line reports ++ last) summary.1.1;
+  says = ap (λ last. flat_map (pair_text wanted.json) reports ++ last) summary.1.1;
 }
 
 -- all is written
 pub report_written : (net : NetValue) (wanted : ReportOptionsValue) (reports : List PairValue) (ranking : List ℕ)
     (held mid holds : Option (List ℕ)) → WroteLines net wanted (pairs_of wanted net.network.ases) reports held mid
-    → IsSummary net.network.links reports ranking → Appends mid holds ranking
+    → IsSummary wanted.json net.network.links reports ranking → Appends mid holds ranking
     → (text : List ℕ) × (Appends held holds text × IsReport net wanted text)
 report_written net wanted reports ranking held mid holds wrote summary kept = (
-  flat_map pair_line reports ++ ranking,
+  flat_map (pair_text wanted.json) reports ++ ranking,
   (
-    Appends-trans held mid holds (flat_map pair_line reports) ranking wrote.kept kept,
+    Appends-trans held mid holds (flat_map (pair_text wanted.json) reports) ranking wrote.kept kept,
     report_is net wanted reports ranking held mid wrote summary,
   ),
 )
@@ -173,19 +172,19 @@ report_written net wanted reports ranking held mid holds wrote summary kept = (
 -- a part of the links is
 pub report_begun : (net : NetValue) (wanted : ReportOptionsValue) (reports : List PairValue) (ranking : List ℕ)
     (held mid holds : Option (List ℕ)) → WroteLines net wanted (pairs_of wanted net.network.ases) reports held mid
-    → IsSummary net.network.links reports ranking → AppendsFront mid holds ranking
+    → IsSummary wanted.json net.network.links reports ranking → AppendsFront mid holds ranking
     → (text : List ℕ) × (Appends held holds text × BeginsReport net wanted text)
 report_begun net wanted reports ranking held mid holds wrote summary (most, kept) = (
-  flat_map pair_line reports ++ take most ranking,
+  flat_map (pair_text wanted.json) reports ++ take most ranking,
   (
-    Appends-trans held mid holds (flat_map pair_line reports) (take most ranking) wrote.kept kept,
+    Appends-trans held mid holds (flat_map (pair_text wanted.json) reports) (take most ranking) wrote.kept kept,
     inr (
-      flat_map pair_line reports ++ ranking,
+      flat_map (pair_text wanted.json) reports ++ ranking,
       (
         report_is net wanted reports ranking held mid wrote summary,
         (
-          length (flat_map pair_line reports) + most,
-          sym (take-append-add (flat_map pair_line reports) ranking most),
+          length (flat_map (pair_text wanted.json) reports) + most,
+          sym (take-append-add (flat_map (pair_text wanted.json) reports) ranking most),
         ),
       ),
     ),

@@ -2,5 +2,6 @@ pub mod Paths
 pub mod Pair
 pub mod Line
 pub mod Summary
+pub mod Json
 pub mod Report
 pub mod inner

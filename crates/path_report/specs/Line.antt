@@ -26,13 +26,22 @@ best_text None = codes " hops unknown until unknown"
 best_text (Some best) =
     codes " hops " ++ (decimal best.hops ++ (codes " until " ++ decimal best.last))
 
--- how many links may be lost, and the links that the paths need, with their number
+-- the links that the paths need, with their number
+unfoldable pub links_text : List Link → List ℕ
+links_text links = codes " needs " ++ (decimal (length links)
+    ++ flat_map (λ link. codes " " ++ link_name link) links)
+
+-- the ASes that the paths pass, with their number
+unfoldable pub ases_text : List ℕ → List ℕ
+ases_text ases = codes " through " ++ (decimal (length ases)
+    ++ flat_map (λ ia. codes " " ++ canonical ia) ases)
+
+-- how many links may be lost, and the links and the ASes that the paths need
 unfoldable pub needed_text : (is_full : Bool) → PairValue → List ℕ
-needed_text true report = codes " survives unknown needs unknown"
+needed_text true report = codes " survives unknown needs unknown through unknown"
 needed_text false report =
     codes " survives " ++ (decimal report.survives ++ (more_text (report.survives == 3)
-    ++ (codes " needs " ++ (decimal (length report.needed)
-    ++ flat_map (λ link. codes " " ++ link_name link) report.needed))))
+    ++ (links_text report.needed ++ ases_text report.through)))
 
 -- what is said of the paths, if there are some
 abbrev pub paths_text : (paths : ℕ) → PairValue → List ℕ

@@ -1,6 +1,7 @@
 -- What is said of the paths between two ASes.
-use Rattle.std.specs.Prelude.{◌≡◌, ◌⊎◌, ◌↔◌, ℕ, ◌<◌, ◌≤◌, ◌/◌, ◌==◌, Bool, true, false, List, [], ◌∷◌, length, filter, Contains, Option, Some, None}
+use Rattle.std.specs.Prelude.{◌≡◌, ◌⊎◌, ◌↔◌, ℕ, ◌<◌, ◌≤◌, ◌/◌, ◌==◌, ◌&&◌, not, Bool, true, false, List, [], ◌∷◌, length, filter, map, Contains, Option, Some, None}
 use Rattle.std.specs.List.{list_all}
+use Rattle.scion_topology.specs.declared.network.AsEntry.{AsEntry}
 use Rattle.scion_topology.specs.declared.network.Link.{Link}
 use Rattle.path_server.specs.Lookup.{segments_for}
 use Rattle.policy_expr.specs.Policy.{Rules}
@@ -14,11 +15,11 @@ use Rattle.combinator.specs.Walks.{AreWalks}
 use Rattle.network_core.specs.Value.{NetValue}
 use Rattle.path_report.specs.declared.pair.AsPair.{AsPair}
 use Rattle.path_report.specs.declared.best.BestPath.{BestPath}
-use Rattle.path_report.specs.Paths.{crosses, is_open, open_paths, open_walks, IsSurvived}
+use Rattle.path_report.specs.Paths.{crosses, passes, is_open, open_paths, open_walks, IsSurvived}
 
 -- what is said of an ordered pair of ASes: whether there may be more walks than were found, the
--- number of open ones, the best open path, how many links may be lost, and the links that each open
--- walk crosses
+-- number of open ones, the best open path, how many links may be lost, the links that each open
+-- walk crosses, and the ASes between the two that each open walk passes
 pub record PairValue : Type 0 where
   pub pair : AsPair
   pub is_full : Bool
@@ -26,6 +27,7 @@ pub record PairValue : Type 0 where
   pub best : Option BestPath
   pub survives : ℕ
   pub needed : List Link
+  pub through : List ℕ
 
 -- the question for the paths of a pair in a network, at its second
 abbrev pub question_between : NetValue → Rules → AsPair → Question
@@ -54,14 +56,31 @@ pub record TellsBest (links : List Link) (question : Question) (limit : ℕ) (be
   pub tells : TellsFirst (open_paths links paths) best
   pub whole : best ≡ None → (length paths < some) ⊎ (some ≡ limit)
 
--- each path that may be sent, and whose links are all up, crosses this link
-abbrev pub IsNeeded : List Link → Question → Link → Type 0
-IsNeeded links question link = (path : PathValue) → IsCandidate question path
-    → is_open links (walk_of path.pieces) ≡ true → crosses (walk_of path.pieces) link ≡ true
+-- each path that may be sent, and whose links are all up, has a walk that passes this test
+abbrev pub EachOpen : List Link → Question → (test : (List WalkHop → Bool)) → Type 0
+EachOpen links question test = (path : PathValue) → IsCandidate question path
+    → is_open links (walk_of path.pieces) ≡ true → test (walk_of path.pieces) ≡ true
 
--- what is said of a pair is true of the walks of its paths: all of them, or as many as the limit. If
--- all are known and one is open, the named links are exactly those that each open path needs, in the
--- network's order, and the loss of as many links as is said always leaves an open path
+-- each such path crosses this link
+abbrev pub IsNeeded : List Link → Question → Link → Type 0
+IsNeeded links question link = EachOpen links question (λ walk. crosses walk link)
+
+-- each such path passes this AS
+abbrev pub IsPassed : List Link → Question → (ia : ℕ) → Type 0
+IsPassed links question ia = EachOpen links question (λ walk. passes walk ia)
+
+-- whether an AS is neither of the pair
+abbrev pub is_between : AsPair → (ia : ℕ) → Bool
+is_between pair ia = not (pair.from == ia) && not (pair.to == ia)
+
+-- the addresses of some ASes
+abbrev pub addresses : List AsEntry → List ℕ
+addresses ases = map (λ one. one.ia) ases
+
+-- what is said of a pair is true of the walks of its paths: all of them, or as many as the limit.
+-- If all are known and one is open, the named links are exactly those that each open path needs,
+-- and the named ASes those that each passes, in the network's order, and the loss of as many links
+-- as is said always leaves an open path
 pub record IsPairReport (net : NetValue) (rules : Rules) (limit : ℕ) (report : PairValue)
     : Type 0 where
   pub walks : List (List WalkHop)
@@ -76,7 +95,16 @@ pub record IsPairReport (net : NetValue) (rules : Rules) (limit : ℕ) (report :
   pub order : report.is_full ≡ false → 0 < report.paths → report.needed ≡ filter
       (λ link. list_all (λ walk. crosses walk link) (open_walks net.network.links walks))
       net.network.links
+  pub ases : report.is_full ≡ false → 0 < report.paths → (ia : ℕ)
+      → Contains report.through ia ↔ (Contains (addresses net.network.ases) ia
+      × (is_between report.pair ia ≡ true)
+      × IsPassed net.network.links (question_between net rules report.pair) ia)
+  pub ases_order : report.is_full ≡ false → 0 < report.paths → report.through ≡ filter
+      (λ ia. is_between report.pair ia
+      && list_all (λ walk. passes walk ia) (open_walks net.network.links walks))
+      (addresses net.network.ases)
   pub survives : report.is_full ≡ false → 0 < report.paths
       → IsSurvived net.network.links (open_walks net.network.links walks) report.survives
-  pub unknown : report.is_full ≡ true → report.needed ≡ []
-  pub none : report.paths ≡ 0 → (report.needed ≡ []) × (report.best ≡ None)
+  pub unknown : report.is_full ≡ true → (report.needed ≡ []) × (report.through ≡ [])
+  pub none : report.paths ≡ 0
+      → (report.needed ≡ []) × (report.through ≡ []) × (report.best ≡ None)

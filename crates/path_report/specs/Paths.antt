@@ -1,5 +1,5 @@
 -- The paths of an answer whose links are all up, and the links that they need.
-use Rattle.std.specs.Prelude.{◌≡◌, ℕ, ◌<◌, ◌≤◌, suc, Bool, true, false, List, filter, length, All, Contains}
+use Rattle.std.specs.Prelude.{◌≡◌, ℕ, ◌<◌, ◌≤◌, ◌==◌, suc, Bool, true, false, List, filter, length, All, Contains}
 use Rattle.std.specs.List.{list_all, list_any}
 use Rattle.std.specs.Option.{option_map_or}
 use Rattle.policy_expr.specs.declared.hop.WalkHop.{WalkHop}
@@ -12,6 +12,10 @@ use Rattle.network_view.specs.Marks.{was_passed}
 -- whether a packet on this walk crosses the link: it leaves an AS by one of the link's ends
 abbrev pub crosses : List WalkHop → Link → Bool
 crosses walk link = was_passed walk link
+
+-- whether the walk passes an AS, or begins or ends there
+abbrev pub passes : List WalkHop → (ia : ℕ) → Bool
+passes walk ia = list_any (λ hop. hop.ia == ia) walk
 
 -- whether no link stops a packet that leaves by this hop: the one at the interface is up
 abbrev pub lets_leave : List Link → WalkHop → Bool

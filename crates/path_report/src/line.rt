@@ -1,13 +1,15 @@
 //! The line of a pair of ASes.
-#![tactic(auto, unfolding(crate::specs::Line::best_text, crate::specs::Line::link_name, crate::specs::Line::more_text, crate::specs::Line::needed_text, crate::specs::Line::pair_line,))]
+#![tactic(auto, unfolding(crate::specs::Line::ases_text, crate::specs::Line::best_text, crate::specs::Line::link_name, crate::specs::Line::links_text, crate::specs::Line::more_text, crate::specs::Line::needed_text, crate::specs::Line::pair_line,))]
 
 ghost use Rattle.std.specs.Prelude.{◌≡◌, ◌++◌, codes, flat_map, OnOk};
 ghost use Rattle.std.specs.String.{string_bytes};
-ghost use Rattle.path_report.specs.Line.{best_text, link_name, more_text, needed_text, pair_line, paths_text};
+ghost use Rattle.isd_as.specs.Address.{canonical};
+ghost use Rattle.path_report.specs.Line.{ases_text, best_text, link_name, links_text, more_text, needed_text, pair_line, paths_text};
 
 use crate::best::BestPath;
 use crate::pair::PairReport;
 use crate::survival::MAX_LOST;
+use isd_as::IsdAs;
 use scion_topology::Link;
 use std::alloc::AllocError;
 use std::fmt::Write;
@@ -49,18 +51,50 @@ fn add_links(text: &mut String, links: &[Link]) -> Result<(), AllocError>
     Ok(())
 }
 
-/// Adds how many links may be lost, and the links that the paths need, with their number.
+/// Adds ASes, with a space before each.
+fn add_ases(text: &mut String, ases: &[IsdAs]) -> Result<(), AllocError>
+    ensures { OnOk result (string_bytes text.new
+        ≡ string_bytes text.old ++ flat_map (λ ia. codes " " ++ canonical ia) ases.now) }
+{
+    for ia in ases {
+        write!(text, " {ia}")?;
+    }
+    Ok(())
+}
+
+/// Adds the links that the paths need, with their number.
+fn add_needed_links(text: &mut String, links: &[Link]) -> Result<(), AllocError>
+    ensures { OnOk result
+        (string_bytes text.new ≡ string_bytes text.old ++ links_text links.now) }
+{
+    let count = links.len();
+    write!(text, " needs {count}")?;
+    add_links(text, links)
+}
+
+/// Adds the ASes that the paths pass, with their number.
+fn add_needed_ases(text: &mut String, ases: &[IsdAs]) -> Result<(), AllocError>
+    ensures { OnOk result
+        (string_bytes text.new ≡ string_bytes text.old ++ ases_text ases.now) }
+{
+    let count = ases.len();
+    write!(text, " through {count}")?;
+    add_ases(text, ases)
+}
+
+/// Adds how many links may be lost, and the links and the ASes that the paths need.
 fn add_needed(text: &mut String, report: &PairReport) -> Result<(), AllocError>
     ensures { OnOk result (string_bytes text.new
         ≡ string_bytes text.old ++ needed_text report.now.is_full report.now) }
 {
     if report.is_full {
-        return text.push_str(" survives unknown needs unknown");
+        return text.push_str(" survives unknown needs unknown through unknown");
     }
-    let (survives, count) = (report.survives, report.needed.len());
+    let survives = report.survives;
     let more = more_text(survives == MAX_LOST);
-    write!(text, " survives {survives}{more} needs {count}")?;
-    add_links(text, &report.needed)
+    write!(text, " survives {survives}{more}")?;
+    add_needed_links(text, &report.needed)?;
+    add_needed_ases(text, &report.through)
 }
 
 /// Adds what is said of the paths, if there are some.

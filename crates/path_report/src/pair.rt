@@ -5,7 +5,7 @@ ghost use Rattle.path_server.specs.Lookup.{segments_for};
 ghost use Rattle.path_report.specs.Pair.{IsPairReport, TellsBest, question_between};
 
 use crate::best::{BestPath, first_open};
-use crate::needed::needed_links;
+use crate::needed::{needed_ases, needed_links};
 use crate::open_walk::open_walks;
 use crate::report::ReportOptions;
 use crate::survival::losses_survived;
@@ -42,6 +42,9 @@ pub(crate) struct PairReport {
     /// The links that all open walks cross; none if there is no such walk, or if there may be more
     /// walks.
     pub(crate) needed: Vec<Link>,
+    /// The ASes between the two that all open walks pass; none if there is no such walk, or if
+    /// there may be more walks.
+    pub(crate) through: Vec<IsdAs>,
 }
 
 impl Model for PairReport {
@@ -56,6 +59,7 @@ impl Model for PairReport {
       best = r.best;
       survives = r.survives;
       needed = r.needed.items;
+      through = r.through.items;
     } };
 }
 
@@ -87,7 +91,7 @@ fn best_between(
     best_between(alloc, net, wanted, set, pair, limit.min(2 * some))
 }
 
-/// What is said of a pair with so many open walks, where no links are named.
+/// What is said of a pair with so many open walks, where no links and no ASes are named.
 fn without_links(
     alloc: Global,
     pair: AsPair,
@@ -102,6 +106,7 @@ fn without_links(
       best = best;
       survives = 0;
       needed = [];
+      through = [];
     } }
 {
     PairReport {
@@ -111,6 +116,7 @@ fn without_links(
         best,
         survives: 0,
         needed: Vec::new(alloc),
+        through: Vec::new(alloc),
     }
 }
 
@@ -148,5 +154,6 @@ pub(crate) fn pair_report(
         best,
         survives: losses_survived(alloc, &open)?,
         needed: needed_links(alloc, topology, &open)?,
+        through: needed_ases(alloc, topology, &pair, &open)?,
     })
 }

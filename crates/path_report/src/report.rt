@@ -2,11 +2,11 @@ ghost use Rattle.std.specs.Prelude.{◌≡◌, ◌++◌, ◌||◌, IfOk, OnOk, i
 ghost use Rattle.std.specs.String.{string_bytes};
 ghost use Rattle.std.specs.Io.KnownBytes.{Appends};
 ghost use Rattle.streams.specs.Streams.{AppendsFront};
-ghost use Rattle.path_report.specs.Line.{pair_line};
-ghost use Rattle.path_report.specs.Report.{WritesReport, if_wanted, is_chosen, is_wanted, is_write_fault, pairs_from, pairs_of};
+ghost use Rattle.path_report.specs.Report.{WritesReport, if_wanted, is_chosen, is_wanted, is_write_fault, pair_text, pairs_from, pairs_of};
 ghost use Rattle.path_report.specs.inner.Reports.{WritesPair, WritesPairs};
 
 use crate::fault::ReportFault;
+use crate::json::add_json_line;
 use crate::line::add_line;
 use crate::pair::{AsPair, PairReport, pair_report};
 use crate::summary::summary_text;
@@ -32,6 +32,8 @@ pub struct ReportOptions<'a> {
     pub policy: &'a Policy<Global>,
     /// The most paths that are looked for between two ASes.
     pub limit: u16,
+    /// Whether each line is a JSON object.
+    pub json: bool,
 }
 
 impl<'a> Model for ReportOptions<'a> {
@@ -47,6 +49,7 @@ impl<'a> Model for ReportOptions<'a> {
       to = w.to;
       rules = w.policy.now;
       limit = w.limit;
+      json = w.json;
     } };
 }
 
@@ -114,12 +117,24 @@ fn wanted_pairs(
     Ok(pairs)
 }
 
-/// The line of a pair.
-fn line_of(alloc: Global, report: &PairReport) -> Result<String, AllocError>
-    ensures { IfOk result (λ text. string_bytes text ≡ pair_line report.now) }
+/// Adds the line of a pair, in either form.
+fn add_pair_text(text: &mut String, json: bool, report: &PairReport) -> Result<(), AllocError>
+    ensures { OnOk result
+        (string_bytes text.new ≡ string_bytes text.old ++ pair_text json report.now) }
+{
+    if json {
+        add_json_line(text, report)
+    } else {
+        add_line(text, report)
+    }
+}
+
+/// The line of a pair, in either form.
+fn line_of(alloc: Global, json: bool, report: &PairReport) -> Result<String, AllocError>
+    ensures { IfOk result (λ text. string_bytes text ≡ pair_text json report.now) }
 {
     let mut text = String::new(alloc);
-    add_line(&mut text, report)?;
+    add_pair_text(&mut text, json, report)?;
     Ok(text)
 }
 
@@ -146,7 +161,7 @@ fn write_pair<K: Sink>(
     ensures flag { K.failed sink.new ≡ (K.failed sink.old || is_write_fault result) }
 {
     let report = pair_report(alloc, net, wanted, pair)?;
-    let line = line_of(alloc, &report)?;
+    let line = line_of(alloc, wanted.json, &report)?;
     write_line(line.as_str(), sink)?;
     Ok(report)
 }
@@ -172,24 +187,32 @@ fn write_pairs<K: Sink>(
     Ok(reports)
 }
 
-/// Writes the report of a network at its second: a line for each wanted pair of ASes, in the order of the
-/// topology, and a line for each of the links that most pairs need, at most [`MAX_RANKED_LINKS`].
+/// Writes the report of a network at its second: a line for each wanted pair of ASes, in the order
+/// of the topology, and a line for each of the links that most pairs need, at most
+/// [`MAX_RANKED_LINKS`].
 ///
-/// The line of a pair is `FROM TO paths N hops H until S survives K needs L LINK..`. Its N paths have
-/// different walks, whose links are all up. The best of them has H hops, which are all live up to
-/// second S. Whichever K links of the network are lost, one of the N walks is left, and of K + 1 this
-/// is not so; `3+` are at least 3. All of the walks cross these L links. Without a path the line ends
-/// after `paths 0`. If there are as many walks as the limit, there may be more: N is followed by `+`,
-/// and the line ends with `survives unknown needs unknown`. The best path is that of an answer with at
-/// most as many paths as the limit; H and S are `unknown` if there is none in it. The line of a link
-/// is `link LINK pairs N`.
+/// The line of a pair is `FROM TO paths N hops H until S survives K needs L LINK.. through A AS..`.
+/// Its N paths have different walks, whose links are all up. The best of them has H hops, which are
+/// all live up to second S. Whichever K links of the network are lost, one of the N walks is left,
+/// and of K + 1 this is not so; `3+` are at least 3. All of the walks cross these L links, and pass
+/// these A ASes, beside those of the pair. Without a path the line ends after `paths 0`. If there
+/// are as many walks as the limit, there may be more: N is followed by `+`, and the line ends with
+/// `survives unknown needs unknown through unknown`. The best path is that of an answer with at
+/// most as many paths as the limit; H and S are `unknown` if there is none in it. The line of a
+/// link is `link LINK pairs N`.
 ///
-/// For each pair it takes the time of [`walks_between`](combinator::walks_between), and of each walk
-/// for a search of the link at each of its hops; that of [`paths_between`](combinator::paths_between)
-/// for one path, or twice that of those before the first whose links are up; and of the walks for
-/// each three links, each of one walk. The links at the end take the time of each link and each pair,
-/// for each link that the pair needs. The memory is that of the walks of one pair, and of what is said
-/// of each pair.
+/// As JSON, a pair has the members `from`, `to`, `paths`, `more` (whether there may be more paths),
+/// `hops`, `until`, `survives` (3: at least 3), `needs` and `through`; a link those of a topology,
+/// `a` and `b`, each with `ia` and `if`. What is not known, or if there is no path, is `null`. A
+/// link of the last lines has `link` and `pairs`.
+///
+/// For each pair it takes the time of [`walks_between`](combinator::walks_between), and of each
+/// walk for a search of the link at each of its hops; that of
+/// [`paths_between`](combinator::paths_between) for one path, or twice that of those before the
+/// first whose links are up; and of the walks for each three links, each of one walk; and each AS
+/// of the network for the hops of a walk. The links at the end take the time of each link and each
+/// pair, for each link that the pair needs. The memory is that of the walks of one pair, and of
+/// what is said of each pair.
 ///
 /// Each line of a pair is written, and passed on to the device, as soon as it is known.
 ///
@@ -207,7 +230,7 @@ pub fn path_report<K: Sink>(
 {
     let pairs = wanted_pairs(alloc, wanted, net.topology().ases())?;
     let reports = write_pairs(alloc, net, wanted, &pairs, sink)?;
-    let ranked = summary_text(alloc, net.topology().links(), &reports)?;
+    let ranked = summary_text(alloc, wanted.json, net.topology().links(), &reports)?;
     write_line(ranked.as_str(), sink)?;
     Ok(())
 }

@@ -4,8 +4,10 @@
 ghost use Rattle.std.specs.Prelude.{◌≡◌, ◌++◌, IfOk, IsPermutation, IsSorted, OnOk, flat_map};
 ghost use Rattle.std.specs.String.{string_bytes};
 ghost use Rattle.path_report.specs.Summary.{IsRanking, needs, pairs_needing, rank_cmp, rank_line, ranks_from};
+ghost use Rattle.path_report.specs.Report.{rank_text};
 ghost use Rattle.path_report.specs.inner.Named.{IsSummary, is_among, is_same};
 
+use crate::json::add_json_rank;
 use crate::line::add_link;
 use crate::pair::PairReport;
 use crate::report::MAX_RANKED_LINKS;
@@ -46,10 +48,10 @@ fn pairs_needing(reports: &[PairReport], link: &Link) -> usize
 #[derive(Clone, Copy)]
 pub(crate) struct RankedLink {
     /// How many pairs need it.
-    pairs: usize,
+    pub(crate) pairs: usize,
     /// Its place in the list of links.
     place: usize,
-    link: Link,
+    pub(crate) link: Link,
 }
 
 impl RankedLink {
@@ -115,13 +117,25 @@ fn add_rank(text: &mut String, ranked: &RankedLink) -> Result<(), AllocError>
     write!(text, " pairs {pairs}\n")
 }
 
+/// Adds the line of a link, in either form.
+fn add_rank_text(text: &mut String, json: bool, ranked: &RankedLink) -> Result<(), AllocError>
+    ensures { OnOk result
+        (string_bytes text.new ≡ string_bytes text.old ++ rank_text json ranked.now) }
+{
+    if json {
+        add_json_rank(text, ranked)
+    } else {
+        add_rank(text, ranked)
+    }
+}
+
 /// The lines of links.
-fn rank_lines(alloc: Global, ranked: &[RankedLink]) -> Result<String, AllocError>
-    ensures { IfOk result (λ text. string_bytes text ≡ flat_map rank_line ranked.now) }
+fn rank_lines(alloc: Global, json: bool, ranked: &[RankedLink]) -> Result<String, AllocError>
+    ensures { IfOk result (λ text. string_bytes text ≡ flat_map (rank_text json) ranked.now) }
 {
     let mut text = String::new(alloc);
     for one in ranked {
-        add_rank(&mut text, one)?;
+        add_rank_text(&mut text, json, one)?;
     }
     Ok(text)
 }
@@ -129,12 +143,13 @@ fn rank_lines(alloc: Global, ranked: &[RankedLink]) -> Result<String, AllocError
 /// The lines of the links that most pairs need.
 pub(crate) fn summary_text(
     alloc: Global,
+    json: bool,
     links: &[Link],
     reports: &[PairReport],
 ) -> Result<String, AllocError>
-    ensures { IfOk result (λ text. IsSummary links.now reports.now (string_bytes text)) }
+    ensures { IfOk result (λ text. IsSummary json links.now reports.now (string_bytes text)) }
 {
     let mut ranked = ranked_links(alloc, links, reports)?;
     ranked.truncate(MAX_RANKED_LINKS);
-    rank_lines(alloc, &ranked)
+    rank_lines(alloc, json, &ranked)
 }

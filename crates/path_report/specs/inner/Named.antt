@@ -5,7 +5,8 @@ use Rattle.scion_topology.specs.declared.network.Link.{Link}
 use Rattle.scion_topology.specs.Network.{is_end}
 use Rattle.path_report.specs.declared.summary.RankedLink.{RankedLink}
 use Rattle.path_report.specs.Pair.{PairValue}
-use Rattle.path_report.specs.Summary.{IsRanking, rank_line}
+use Rattle.path_report.specs.Summary.{IsRanking}
+use Rattle.path_report.specs.Report.{rank_text}
 
 -- whether both links have the same first end
 abbrev pub is_same : (one other : Link) → Bool
@@ -16,6 +17,6 @@ abbrev pub is_among : List Link → Link → Bool
 is_among links link = list_any (λ one. is_same one link) links
 
 -- the text has the lines of the first 10 links in their order
-abbrev pub IsSummary : List Link → List PairValue → List ℕ → Type 0
-IsSummary links reports text = (ranked : List RankedLink) × (IsRanking links reports ranked
-    × (text ≡ flat_map rank_line (take 10 ranked)))
+abbrev pub IsSummary : (json : Bool) → List Link → List PairValue → List ℕ → Type 0
+IsSummary json links reports text = (ranked : List RankedLink) × (IsRanking links reports ranked
+    × (text ≡ flat_map (rank_text json) (take 10 ranked)))

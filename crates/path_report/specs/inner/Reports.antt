@@ -5,21 +5,20 @@ use Rattle.network_core.specs.Value.{NetValue}
 use Rattle.path_report.specs.declared.fault.ReportFault.{ReportFault}
 use Rattle.path_report.specs.declared.pair.AsPair.{AsPair}
 use Rattle.path_report.specs.Pair.{PairValue, IsPairReport}
-use Rattle.path_report.specs.Line.{pair_line}
-use Rattle.path_report.specs.Report.{ReportOptionsValue, pairs_of, BeginsLines}
+use Rattle.path_report.specs.Report.{ReportOptionsValue, pair_text, pairs_of, BeginsLines}
 
 -- the line of this pair was written
 pub record WroteLine (net : NetValue) (wanted : ReportOptionsValue) (pair : AsPair)
     (report : PairValue) (held holds : Option (List ℕ)) : Type 0 where
   pub is : IsPairReport net wanted.rules wanted.limit report
   pub pair_is : report.pair ≡ pair
-  pub kept : Appends held holds (pair_line report)
+  pub kept : Appends held holds (pair_text wanted.json report)
 
 -- the text is a beginning of the line of this pair, or nothing
 abbrev pub BeginsLine : NetValue → ReportOptionsValue → AsPair → (text : List ℕ) → Type 0
 BeginsLine net wanted pair text = (text ≡ [])
     ⊎ ((report : PairValue) × (IsPairReport net wanted.rules wanted.limit report
-    × ((report.pair ≡ pair) × ((most : ℕ) × (text ≡ take most (pair_line report))))))
+    × ((report.pair ≡ pair) × ((most : ℕ) × (text ≡ take most (pair_text wanted.json report))))))
 
 -- the line of this pair was written, or, before a fault, the beginning of it
 abbrev pub WritesPair : (net : NetValue) (wanted : ReportOptionsValue) (pair : AsPair)
@@ -33,7 +32,7 @@ pub record WroteLines (net : NetValue) (wanted : ReportOptionsValue) (pairs : Li
     (reports : List PairValue) (held holds : Option (List ℕ)) : Type 0 where
   pub pairs_are : map (λ report. report.pair) reports ≡ pairs
   pub each : All (IsPairReport net wanted.rules wanted.limit) reports
-  pub kept : Appends held holds (flat_map pair_line reports)
+  pub kept : Appends held holds (flat_map (pair_text wanted.json) reports)
 
 -- the lines of all wanted pairs were written, or, before a fault, a beginning of them
 abbrev pub WritesPairs : {A : Type 0} → (items : (A → List PairValue)) (net : NetValue)

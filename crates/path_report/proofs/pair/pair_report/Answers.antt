@@ -11,9 +11,9 @@ use Rattle.combinator.specs.Candidate.{question_of}
 use Rattle.combinator.specs.Walks.{AreWalks}
 use Rattle.path_report.specs.declared.open_walk.OpenWalk.{OpenWalk}
 use Rattle.path_report.specs.Paths.{IsSurvived, open_walks}
-use Rattle.path_report.specs.Pair.{IsPairReport, PairValue, question_between}
+use Rattle.path_report.specs.Pair.{IsPairReport, PairValue, addresses, question_between}
 use Rattle.path_report.specs.inner.Cuts.{DoSurvive}
-use Rattle.path_report.specs.inner.Needed.{is_crossed}
+use Rattle.path_report.specs.inner.Needed.{is_crossed, is_through}
 use Rattle.path_report.specs.inner.Places.{HasPlaces}
 use Rattle.path_report.proofs.Reporting.{reported_all}
 use Rattle.path_report.proofs.Surviving.{survived}
@@ -59,6 +59,12 @@ returns-clause-report c =
     c.deref-2.ensures.value
     ∙ ap (λ (ws : List (List WalkHop)). filter (is_crossed ws) c.topology-topology.result.now.links) hops
     ∙ ap (λ n. filter (is_crossed (open_walks links walks)) n.links) c.topology-topology.ensures in
+    let through : c.in_ok-needed_ases.field-0.items ≡ filter (is_through pair (open_walks links walks)) (addresses net.network.ases) =
+    c.in_ok-needed_ases.ensures
+    ∙ ap (λ (ws : List OpenWalk). filter (is_through pair (map (λ (walk : OpenWalk). walk.hops.now) ws)) (addresses c.topology-topology.result.now.ases))
+    c.deref-3.ensures.value
+    ∙ ap (λ (ws : List (List WalkHop)). filter (is_through pair ws) (addresses c.topology-topology.result.now.ases)) hops
+    ∙ ap (λ n. filter (is_through pair (open_walks links walks)) (addresses n.ases)) c.topology-topology.ensures in
     subst (λ (b : Bool). IsPairReport net rules limit (record {
       pair = pair;
       is_full = b;
@@ -66,8 +72,9 @@ returns-clause-report c =
       best = c.in_ok-best.best;
       survives = c.in_ok-losses_survived.field-0;
       needed = c.in_ok-needed_links.field-0.items;
+      through = c.in_ok-needed_ases.field-0.items;
     })) full
     (reported_all net rules limit pair walks gathered c.len-paths.result c.in_ok-losses_survived.field-0 c.in_ok-best.best
-    c.in_ok-needed_links.field-0.items (λ same. c.if-is_full.false (c.len.ensures ∙ same ∙ sym same_limit)) count some c.in_ok-best.ensures
+    c.in_ok-needed_links.field-0.items c.in_ok-needed_ases.field-0.items (λ same. c.if-is_full.false (c.len.ensures ∙ same ∙ sym same_limit)) count some c.in_ok-best.ensures
     (subst (λ (ws : List (List WalkHop)). IsSurvived links ws c.in_ok-losses_survived.field-0) hops
-    (survived net.network (subst IsNetwork c.topology-topology.ensures c.known.ensures) found places c.in_ok-losses_survived.field-0 losses)) needed)
+    (survived net.network (subst IsNetwork c.topology-topology.ensures c.known.ensures) found places c.in_ok-losses_survived.field-0 losses)) needed through)
