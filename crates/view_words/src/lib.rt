@@ -4,6 +4,7 @@
 //! refused.
 #![tactic(auto)]
 
+mod extent_words;
 mod packet_words;
 mod report_words;
 mod turn_words;

@@ -13,16 +13,24 @@ use step_line::number;
 static REPORT_HELP: &str = "\
 Standard input has the lines of 'scionet run'. For each ordered pair of ASes of the network after \
 the last of them there is a line, in the order of the topology's list:
-  FROM TO paths N hops H until S survives K needs L LINK..
+  FROM TO paths N hops H until S survives K needs L LINK.. through A AS..
 N paths lead from FROM to TO at the network's second, keep the policy, and cross no link that is \
 down. The best of them has H hops and is live up to second S. Whichever K links of the network are \
 lost, one of the paths is left; more than 3 links are not tried, so that '3+' is at least 3. Each \
-of the paths crosses these L links, so that no packet arrives by any path while one of them is cut. \
+of the paths crosses these L links, so that no packet arrives by any path while one of them is cut, \
+and passes these A ASes, beside FROM and TO. \
 A link is written by its two ends, as 'IA#IF~IA#IF'. Without a path the line ends after 'paths 0'. \
 If there are as many paths as the limit, there may be more: N is then followed by '+', and the line \
-ends with 'survives unknown needs unknown'.
+ends with 'survives unknown needs unknown through unknown'.
 
-The last lines are 'link LINK pairs N', for at most 10 links: those that most pairs need.
+The last lines are 'link LINK pairs N', for at most 10 links: those that most pairs need. Where no \
+segment is stored, one line says so.
+
+With --json each line is a JSON object. That of a pair has the members 'from', 'to', 'paths', 'more' \
+(whether there may be more paths), 'hops', 'until', 'survives' (3 is at least 3), 'needs' and \
+'through'; what is not known, or if there is no path, is null. Each link has its ends 'a' and 'b' \
+with 'ia' and 'if'. The last objects have 'link' and 'pairs'. tools/compare_reports.py compares two \
+such reports.
 
 'no 14 UnknownAs' is printed if the topology has no AS of a given address, and 'no 85 SameAs' if \
 both addresses are the same. The last entry of an access list has no predicate.
@@ -42,6 +50,8 @@ pub struct ReportWords {
     pub policy: Policy<Global>,
     /// The most paths between two ASes.
     pub limit: u16,
+    /// Whether each line is a JSON object.
+    pub json: bool,
 }
 
 /// An option with a text.
@@ -63,6 +73,14 @@ fn limit_option<'a>(alloc: Global) -> Arg<'a> {
         .help("The most paths that are looked for between two ASes")
 }
 
+/// The option for lines that are JSON objects.
+fn json_option<'a>(alloc: Global) -> Arg<'a> {
+    Arg::new(alloc, "json")
+        .long("json")
+        .action(ArgAction::SetTrue)
+        .help("Prints each line as a JSON object")
+}
+
 /// The command `report`.
 pub(crate) fn report_command<'a>(alloc: Global) -> Result<Command<'a>, AllocError> {
     let help = "An entry of an access list that all hops pass, as '- 1-ff00:0:110' or '+'";
@@ -74,6 +92,7 @@ pub(crate) fn report_command<'a>(alloc: Global) -> Result<Command<'a>, AllocErro
         acl,
         text_option(alloc, "sequence", "TEXT", help),
         limit_option(alloc),
+        json_option(alloc),
     ]?;
     Command::new(alloc, "report")
         .about("Reports the paths of that network, and which links they need")
@@ -89,7 +108,7 @@ fn bad_words<F: NumberedFault>(alloc: Global, fault: F) -> Result<WordsFault, Al
 }
 
 /// The address in the option of this name, if it is given.
-fn address_in(
+pub(crate) fn address_in(
     alloc: Global,
     matches: &ArgMatches<'_>,
     name: &str,
@@ -149,5 +168,6 @@ pub(crate) fn report_in(
         to: address_in(alloc, matches, "to")?,
         policy: policy_in(alloc, matches)?,
         limit,
+        json: matches.get_flag("json"),
     }))
 }

@@ -2,6 +2,7 @@
 
 use crate::report_words::ReportWords;
 use beacon_lines::BeaconingOptions;
+use network_view::Extent;
 use scion_packet::PacketInfo;
 use step_line::StepCommand;
 
@@ -34,8 +35,9 @@ pub enum View {
     Wrap(PacketInfo, u32),
     /// `capture`: the capture of the run of these lines, whose packets say this besides.
     Capture(PacketInfo),
-    /// `network`: the network after the lines on standard input, and what is marked in it.
-    Network(Option<Subject>),
+    /// `network`: a part of the network after the lines on standard input, and what is marked in
+    /// it.
+    Network(Extent, Option<Subject>),
     /// `path`: the path of a packet of that network, or of an answer.
     Path(Subject),
     /// `report`: the paths of that network.

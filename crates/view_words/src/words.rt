@@ -1,5 +1,6 @@
 //! The words of the command line.
 
+use crate::extent_words::{centre_group, extent_in, extent_options};
 use crate::packet_words::{capture_command, info_in, wrap_command};
 use crate::report_words::{report_command, report_in};
 use crate::turn_words::bad_turn;
@@ -34,11 +35,16 @@ Example: at second 100, a packet of a host leaves 1-ff00:0:111 over interface 2,
 /// The end of the long help of `network`.
 static NETWORK_HELP: &str = "\
 Standard input has the lines of 'scionet run'. The picture is that of the network after the last \
-of them, in the language DOT: 'dot -Tsvg' of graphviz draws it. A network of more than 20 ASes is \
-drawn without routers. With --packet the links that this \
-packet has passed are red, and so is the router at which it is or which refused it. With --answer \
-the links of a path of this answer are red. 'no 130 NoPacket' or 'no 133 NoAnswer' is printed if \
-there is no such packet or path.
+of them, in the language DOT: 'dot -Tsvg' of graphviz draws it. More than 20 ASes are drawn without \
+routers, and more than 60 in layers, by their distance from the core. With --packet the links that \
+this packet has passed are red, and so is the router at which it is or which refused it. With \
+--answer the links of a path of this answer are red.
+
+With --isd, --around or --core the picture shows this part alone, with --hops N also what is at most \
+N links from there. An AS at the other end of a link that leaves the part is gray.
+
+'no 14 UnknownAs' is printed if no AS of the topology is named, 'no 130 NoPacket' or \
+'no 133 NoAnswer' if there is no such packet or path.
 
 Example: a network of one AS
   printf '%s\\n' \\
@@ -160,6 +166,15 @@ fn network_command<'a>(
         .group(group)
 }
 
+/// The command `network`, which also says which part is shown.
+fn picture_command<'a>(alloc: Global, about: &'a str) -> Result<Command<'a>, AllocError> {
+    let group = centre_group(alloc)?;
+    let options = extent_options(alloc)?;
+    network_command(alloc, "network", about, NETWORK_HELP, false)?
+        .args(options)?
+        .group(group)
+}
+
 /// An option with a number in a range, which is `default` if it is not given.
 pub(crate) fn range_option<'a>(
     alloc: Global,
@@ -207,7 +222,7 @@ fn commands<'a>(alloc: Global) -> Result<Vec<Command<'a>>, AllocError> {
     let mut commands = Vec::with_capacity(alloc, 8)?;
     commands.push_reserved(packet_command(alloc)?);
     let about = "Draws the network that the lines on standard input lead to";
-    commands.push_reserved(network_command(alloc, "network", about, NETWORK_HELP, false)?);
+    commands.push_reserved(picture_command(alloc, about)?);
     let about = "Shows the path of a packet of that network or of an answer, field by field";
     commands.push_reserved(network_command(alloc, "path", about, PATH_HELP, true)?);
     commands.push_reserved(report_command(alloc)?);
@@ -296,7 +311,8 @@ fn view_in(alloc: Global, matches: &ArgMatches<'_>) -> Result<Option<View>, Word
         return Ok(None);
     };
     if name == "network" {
-        return Ok(Some(View::Network(subject_in(given))));
+        let extent = extent_in(alloc, given)?;
+        return Ok(Some(View::Network(extent, subject_in(given))));
     }
     if name == "path" {
         return Ok(path(given));
@@ -323,7 +339,7 @@ fn view_in(alloc: Global, matches: &ArgMatches<'_>) -> Result<Option<View>, Word
 ///
 /// [`WordsFault::Usage`] with the text of `clap`, if it refuses the words or they ask for help. The
 /// same fault with the text `scionet_view: usage`, if a number can't be read; with a refusal's
-/// number, name and sentence, if an address or a policy of `report` is refused; and with what was
+/// number, name and sentence, if an address or a policy is refused; and with what was
 /// found and wanted, if a word of a turn can't be read, or a host of `wrap` or `capture` is no
 /// address.
 /// [`WordsFault::Memory`] if memory runs out.

@@ -1,3 +1,3 @@
 pub mod Paths
 mod Wrapping
-mod Showing
+mod TextShown

@@ -1,5 +1,6 @@
 -- The output of `scionet_view report`: the report of the network after some lines.
-use Rattle.std.specs.Prelude.{◌≡◌, ◌⊎◌, ℕ, ◌==◌, ◌&&◌, not, if◌then◌else◌, is_some, Bool, true, false, List, Option, Some, None, Result, Ok, Err}
+use Rattle.std.specs.Prelude.{◌≡◌, ◌⊎◌, ℕ, ◌==◌, ◌&&◌, not, if◌then◌else◌, is_some, codes, length, Bool, true, false, List, Option, Some, None, Result, Ok, Err}
+use Rattle.std.specs.Bool.{MatchBool}
 use Rattle.std.specs.Option.{MatchOption}
 use Rattle.scion_topology.specs.declared.fault.TopologyFault.TheVariants.{UnknownAs}
 use Rattle.scion_topology.specs.Network.{Network, as_named}
@@ -25,6 +26,7 @@ wanted_by words = record {
   to = words.to;
   rules = words.policy;
   limit = words.limit;
+  json = words.json;
 }
 
 -- whether the network has this AS, if one is named
@@ -44,19 +46,37 @@ report_fault network from to =
     if not (has_named network from && has_named network to) then Some (Topology UnknownAs)
     else if are_one from to then Some (Combination SameAs) else None
 
+-- whether the network stores no segment, so that a report would say of each pair that it has no path;
+-- for JSON that is said all the same
+abbrev pub is_bare : ReportOptionsValue → NetValue → Bool
+is_bare wanted net = not wanted.json && (length net.segments == 0)
+
+-- the line in place of such a report
+abbrev pub bare_line : List ℕ
+bare_line = codes "no segment is stored: 'scionet_view beacons' prints the lines that make some\n"
+
+-- the text is the report, or the line in place of one that would say nothing
+abbrev pub TellsPaths : ReportOptionsValue → NetValue → List ℕ → Type 0
+TellsPaths wanted net text =
+    MatchBool (is_bare wanted net) (text ≡ bare_line) (IsReport net wanted text)
+
 -- the text is the report, or the line that says why there is none
 abbrev pub TellsReport : ReportOptionsValue → NetValue → List ℕ → Type 0
 TellsReport wanted net text = MatchOption (report_fault net.network wanted.from wanted.to)
-    (IsReport net wanted text) (λ fault. text ≡ fault_line fault)
+    (TellsPaths wanted net text) (λ fault. text ≡ fault_line fault)
 
 -- the text is a beginning of that
+abbrev pub BeginsPaths : ReportOptionsValue → NetValue → List ℕ → Type 0
+BeginsPaths wanted net text =
+    MatchBool (is_bare wanted net) (Begins bare_line text) (BeginsReport net wanted text)
+
 abbrev pub BeginsTelling : ReportOptionsValue → NetValue → List ℕ → Type 0
 BeginsTelling wanted net text = MatchOption (report_fault net.network wanted.from wanted.to)
-    (BeginsReport net wanted text) (λ fault. Begins (fault_line fault) text)
+    (BeginsPaths wanted net text) (λ fault. Begins (fault_line fault) text)
 
--- the lines of the source gave no network, and nothing was written; or they gave one, and its report
--- was written, or, before a fault, the beginning of it. The first two contents are what the source
--- still had before and after it; the last two are what the sink held before and after it.
+-- the lines of the source gave no network, and nothing was written; or they gave one, and its
+-- report was written, or, before a fault, the beginning of it. The first two contents are what the
+-- source still had before and after it; the last two are what the sink held before and after it.
 abbrev pub ShowsReport : (wanted : ReportOptionsValue) (result : Result (Unit {0}) RunFault)
     (before after held holds : Option (List ℕ)) → Type 0
 ShowsReport wanted result before after held holds =

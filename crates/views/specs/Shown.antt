@@ -18,6 +18,7 @@ use Rattle.run_capture.specs.Lines.{IsCapture}
 use Rattle.beacon_lines.specs.Lines.{AreBeaconLines, one_line}
 use Rattle.view_words.specs.declared.view.View.{View}
 use Rattle.view_words.specs.declared.view.View.TheVariants.{Packet, WholePacket, PacketOfRun, Wrap, Capture, Network, Path, Report, Beacons, Explain}
+use Rattle.view_words.specs.declared.view.Subject.{Subject}
 use Rattle.view_words.specs.declared.view.Subject.TheVariants as subject
 use Rattle.views.specs.Explained.{ExplainsAll}
 use Rattle.views.specs.Network.{picture_of}
@@ -66,8 +67,15 @@ abbrev pub Wrote : (tells : (List ℕ → Type 0)) (result : Result (Unit {0}) C
 Wrote tells result held holds =
     IfOk result (λ done. (bytes : List ℕ) × (Appends held holds bytes × tells bytes))
 
+-- the text about the path of what is named was written; of a path of an answer nothing is said
+abbrev pub ShowsPath : (named : Subject) (result : Result (Unit {0}) CommandFault)
+    (before after held holds : Option (List ℕ)) → Type 0
+ShowsPath (subject.Packet number) result before after held holds =
+    ShowsText (λ net. TellsPacket (slice_get net.packets number)) result before after held holds
+ShowsPath (subject.Answer answer path) result before after held holds = Unit {0}
+
 -- the view of a source. The first two contents are what the source still had before and after it,
--- the last two what the sink held. Of a path of an answer nothing is said.
+-- the last two what the sink held
 abbrev pub ShowsView : (view : View) (result : Result (Unit {0}) CommandFault)
     (before after held holds : Option (List ℕ)) → Type 0
 ShowsView (Packet turn) result before after held holds =
@@ -82,11 +90,10 @@ ShowsView (Wrap info number) result before after held holds =
 ShowsView (Capture info) result before after held holds =
     Wrote (λ file. (input : List ℕ) × (Consumes before after input × IsCapture info input file))
     result held holds
-ShowsView (Network marked) result before after held holds =
-    ShowsText (λ net text. text ≡ picture_of net marked) result before after held holds
-ShowsView (Path (subject.Packet number)) result before after held holds =
-    ShowsText (λ net. TellsPacket (slice_get net.packets number)) result before after held holds
-ShowsView (Path (subject.Answer answer path)) result before after held holds = Unit {0}
+ShowsView (Network extent marked) result before after held holds =
+    ShowsText (λ net text. text ≡ picture_of net extent marked) result before after held holds
+ShowsView (Path named) result before after held holds =
+    ShowsPath named result before after held holds
 ShowsView (Report words) result before after held holds = (run : Result (Unit {0}) RunFault)
     × ((result ≡ after_run run) × ShowsReport (wanted_by words) run before after held holds)
 ShowsView (Beacons options) result before after held holds =

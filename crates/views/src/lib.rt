@@ -16,7 +16,7 @@ mod packet;
 mod path;
 mod report;
 mod run_packet;
-mod show;
+mod showing;
 mod wrapped;
 
-pub use show::show;
+pub use showing::show;

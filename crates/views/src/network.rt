@@ -11,9 +11,10 @@ use combinator::Path;
 use event_lines::RunFault;
 use forwarding::PacketLocation;
 use network_core::{EventFault, Net};
-use network_view::{Router, network_dot};
+use network_view::{Extent, Router, has_central, network_dot};
 use policy_expr::WalkHop;
 use refusal::NumberedFault;
+use scion_topology::TopologyFault;
 use std::alloc::{AllocError, Global};
 use streams::Source;
 use view_words::Subject;
@@ -72,34 +73,45 @@ fn marks_in(net: &Net, subject: Option<Subject>) -> Result<Marks<'_>, EventFault
     }
 }
 
-/// The picture of a network, with the packet or the path marked that is named, if one is.
-fn picture(alloc: Global, net: &Net, subject: Option<Subject>) -> Result<String, AllocError>
-    ensures { IfOk result (λ text. string_bytes text ≡ picture_of net.now subject) }
+/// The picture of a part of a network, with the packet or the path marked that is named, if one is.
+fn picture(
+    alloc: Global,
+    net: &Net,
+    extent: &Extent,
+    subject: Option<Subject>,
+) -> Result<String, AllocError>
+    ensures { IfOk result (λ text. string_bytes text ≡ picture_of net.now extent.now subject) }
 {
     let topology = net.topology();
+    if !has_central(topology.ases(), &extent.centre) {
+        return fault_line(alloc, EventFault::Topology(TopologyFault::UnknownAs));
+    }
     match marks_in(net, subject) {
-        Ok((hops, at)) => network_dot(alloc, topology.ases(), topology.links(), hops, at),
+        Ok((hops, at)) => network_dot(alloc, topology.ases(), topology.links(), extent, hops, at),
         Err(fault) => fault_line(alloc, fault),
     }
 }
 
-/// The picture of the network after the lines of a source, with the packet or the path marked that
-/// is named, if one is; the line `no 130 NoPacket` or `no 133 NoAnswer` if it is not there.
+/// The picture of a part of the network after the lines of a source, with the packet or the path
+/// marked that is named, if one is; the line `no 14 UnknownAs` if the network has no AS around
+/// which the part is, and then `no 130 NoPacket` or `no 133 NoAnswer` if there is no such packet or
+/// path.
 ///
 /// The faults are those of [`listen`](event_lines::listen) without [`RunFault::Write`];
 /// [`RunFault::Memory`] also if memory runs out for the picture.
 pub(crate) fn network_picture<S: Source>(
     alloc: Global,
     source: &mut S,
+    extent: &Extent,
     subject: Option<Subject>,
 ) -> Result<String, RunFault>
-    ensures shows { Shows (λ net text. text ≡ picture_of net subject) result
+    ensures shows { Shows (λ net text. text ≡ picture_of net extent.now subject) result
         (S.left source.old) (S.left source.new) }
     ensures flag { S.failed source.new ≡ (S.failed source.old || is_read_fault result) }
 {
     let text = {
         let net = network_after(alloc, source)?;
-        picture(alloc, &net, subject)
+        picture(alloc, &net, extent, subject)
     };
     Ok(text?)
 }

@@ -5,7 +5,7 @@ ghost use Rattle.event_lines.specs.Run.{is_read_fault, is_write_fault};
 ghost use Rattle.views.specs.Network.{fault_line};
 ghost use Rattle.path_report.specs.Report.{BeginsReport, IsReport};
 ghost use Rattle.views.specs.Reached.{Begins, Writes};
-ghost use Rattle.views.specs.Report.{BeginsTelling, ShowsReport, TellsReport, are_one, has_named, report_fault, run_fault, wanted_by};
+ghost use Rattle.views.specs.Report.{BeginsPaths, BeginsTelling, ShowsReport, TellsPaths, TellsReport, are_one, bare_line, has_named, is_bare, report_fault, run_fault, wanted_by};
 
 use crate::network::fault_line;
 use crate::network_after::network_after;
@@ -81,6 +81,7 @@ fn write_wanted<K: Sink>(
         to: words.to,
         policy: &words.policy,
         limit: words.limit,
+        json: words.json,
     };
     path_report(alloc, net, &wanted, sink).map_err(run_fault)
 }
@@ -93,6 +94,48 @@ fn write_fault<K: Sink>(alloc: Global, fault: EventFault, sink: &mut K) -> Resul
 {
     let line = fault_line(alloc, fault)?;
     write_all(sink, line.as_bytes()).map_err(|_| RunFault::Write)
+}
+
+/// Whether a report would say of each pair that it has no path, since the network stores no segment;
+/// for JSON that is said all the same.
+fn is_bare(net: &Net, words: &ReportWords) -> bool
+    ensures { result ≡ is_bare (wanted_by words.now) net.now }
+{
+    !words.json && net.store().len() == 0
+}
+
+/// The line in place of a report of a network without segments.
+fn bare_line() -> &'static str
+    ensures { result.now ≡ bare_line }
+{
+    "no segment is stored: 'scionet_view beacons' prints the lines that make some\n"
+}
+
+/// Writes the line in place of a report of a network without segments.
+fn write_bare<K: Sink>(sink: &mut K) -> Result<(), RunFault>
+    ensures written { Writes (λ text. text ≡ bare_line) (Begins bare_line) result
+        (K.held sink.old) (K.held sink.new) }
+    ensures flag { K.failed sink.new ≡ (K.failed sink.old || is_write_fault result) }
+{
+    write_all(sink, bare_line().as_bytes()).map_err(|_| RunFault::Write)
+}
+
+/// Writes the report of a network, or the line in place of one that would say nothing.
+fn write_paths<K: Sink>(
+    alloc: Global,
+    net: &Net,
+    words: &ReportWords,
+    sink: &mut K,
+) -> Result<(), RunFault>
+    ensures written { let wanted = wanted_by words.now in
+        Writes (TellsPaths wanted net.now) (BeginsPaths wanted net.now) result
+        (K.held sink.old) (K.held sink.new) }
+    ensures flag { K.failed sink.new ≡ (K.failed sink.old || is_write_fault result) }
+{
+    if is_bare(net, words) {
+        return write_bare(sink);
+    }
+    write_wanted(alloc, net, words, sink)
 }
 
 /// Writes the report of a network, or the line that says why there is none.
@@ -109,13 +152,13 @@ fn write_report<K: Sink>(
 {
     match report_fault(net.topology(), words.from, words.to) {
         Some(fault) => write_fault(alloc, fault, sink),
-        None => write_wanted(alloc, net, words, sink),
+        None => write_paths(alloc, net, words, sink),
     }
 }
 
 /// Writes the report of the network after the lines of a source, line by line; or the line
 /// `no 14 UnknownAs`, if an AS is named that the topology does not have, or `no 85 SameAs`, if one
-/// is named twice.
+/// is named twice, or, but for JSON, a line that no segment is stored, if there is none.
 ///
 /// The faults are those of [`listen`](event_lines::listen), before anything is written; and then
 /// [`RunFault::Memory`], if memory runs out for the report, and [`RunFault::Write`].

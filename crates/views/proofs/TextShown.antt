@@ -34,7 +34,7 @@ pub text_shown : {A : Type 0} (tells : (NetValue → List ℕ → Type 0)) (made
 text_shown tells (Ok text) result before after held holds shows writes =
     inr (inr (shows.0, (shows.1.0, written (tells shows.0) text result held holds shows.1.1 writes)))
 text_shown tells (Err fault) result before after held holds (inl listens) writes =
-    inl (fault, (writes.0, (writes.1, listens)))
+    inl (fault, (writes.0, writes.1, listens))
 text_shown tells (Err fault) result before after held holds (inr same) writes =
     inr (inl (writes.0 ∙ ap (λ f. Err (of_run f)) same, writes.1))
 
@@ -45,5 +45,5 @@ pub wrote : {A : Type 0} (tells : (List ℕ → Type 0)) (made : Result (String 
     → Wrote tells result held holds
 wrote tells (Ok text) (Ok done) held holds is writes = (string_bytes text, (writes, is))
 wrote tells (Ok text) (Err fault) held holds is writes = tt
-wrote tells (Err fault) (Ok done) held holds is writes = absurd (writes.0)
+wrote tells (Err fault) (Ok done) held holds is writes = absurd (let same = writes.0 in cc)
 wrote tells (Err fault) (Err other) held holds is writes = tt
