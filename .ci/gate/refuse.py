@@ -160,11 +160,12 @@ class Program(Subject):
                  name: str = "scionet") -> None:
         self.name, self.given, self.answer = " ".join([name, *words]), given, answer
         self.words = [executable(name, name), *words]
+        self.told = f"{name}: out of memory\n".encode()
 
     def is_right(self, run: Run) -> bool:
         if (run.status, run.output, run.errors) == (0, self.answer, b""):
             return True
-        is_told = (run.status, run.errors) == (1, b"scionet: out of memory\n")
+        is_told = (run.status, run.errors) == (1, self.told)
         is_whole = run.output[-1:] in (b"", b"\n")
         return run.was_refused and is_told and is_whole and self.answer.startswith(run.output)
 

@@ -74,6 +74,7 @@ STEPS = (
     Step("explain"),
     Step("captures"),
     Step("run_packets"),
+    Step("view_words"),
     Step("playground"),
     Step("bindings", minutes=60),
     Step("documents"),
