@@ -126,7 +126,7 @@ NETWORKS = [
          "1-64 1-63 paths ", Bound(6.5, 2.6, 20), Bound(6.5, 1, 20), is_beaconed=True),
     Work("a report of the paths to one AS", view("report", "--to", "1-8"), families.layers,
          (500, 1000), " pairs 8", Bound(LINEAR, 1, 60), is_beaconed=True),
-    Work("a picture", view("network"), families.core_mesh, (512, 1024), "labeljust=c",
+    Work("a picture", view("network"), families.core_mesh, (512, 1024), "numbers at the left",
          Bound(1.5, 1.6, 20), times=10),
     Work("a picture of a packet's path", view("network", "--packet", "0"), families.packets,
          (10_000, 20_000), "labeljust=c", Bound(LINEAR, 1, 15)),
