@@ -1,9 +1,10 @@
 -- Reading fields of one width one after the other, as a loop does.
-use Rattle.std.proofs.Common.{◌≡◌, ℕ, suc, ◌-◌, ◌+◌, ◌*◌, ◌≤◌, ◌<◌, List, [], ◌∷◌, ◌++◌, drop, Result, Ok, Err, refl, sym, ap, ◌∙◌, append_assoc, arith}
+use Rattle.std.proofs.Common.{◌≡◌, ℕ, suc, ◌-◌, ◌+◌, ◌*◌, ◌≤◌, ◌<◌, List, [], ◌∷◌, ◌++◌, drop, Result, Ok, Err, refl, sym, ap, subst, ◌∙◌, append_assoc, arith}
 use Rattle.std.proofs.lemmas.List.{append-nil, drop-drop}
 use Rattle.path_header.specs.declared.fault.HeaderFault.{HeaderFault}
 use Rattle.refusal.specs.Refusal.{◌>>=◌}
 use Rattle.path_header.specs.Reading.{fields_at}
+use Rattle.refusal.proofs.Steps.{bind_ok, ok_is}
 
 -- what was read before, and what is still read
 abbrev pub with_front : {A : Type 0} → List A → Result (List A) HeaderFault → Result (List A) HeaderFault
@@ -44,3 +45,26 @@ is_done {A} one width front count i bytes total le so_far =
     let k : count - i ≡ 0 = omega arith in
     let step : with_front front (fields_at one width (count - i) (drop (width * i) bytes)) ≡ Ok front = rw k (ap (λ (xs : List A). Ok xs) (append-nil front)) in
     sym so_far ∙ step
+
+-- the same for fields that a check has passed: the values are those that are read
+pub goes_on_checked : {A : Type 0} (one : List ℕ → Result A HeaderFault) (from : List ℕ → A) (width : ℕ) (front : List A) (count i : ℕ) (bytes : List ℕ) (all : List A)
+    → ((field : List ℕ) (x : A) → one field ≡ Ok x → x ≡ from field)
+    → i < count
+    → with_front front (fields_at one width (count - i) (drop (width * i) bytes)) ≡ Ok all
+    → with_front (front ++ from (drop (width * i) bytes) ∷ []) (fields_at one width (count - (i + 1)) (drop (width * (i + 1)) bytes)) ≡ Ok all
+unfolding fields_at
+goes_on_checked {A} one from width front count i bytes all is_from lt h =
+    let rest = drop (width * i) bytes in
+    let n = count - (i + 1) in
+    let k : count - i ≡ suc n = omega arith in
+    let later = bind_ok (fields_at one width (count - i) rest) (λ ys. Ok (front ++ ys)) all h in
+    let step : fields_at one width (suc n) rest ≡ Ok later.0 = subst (λ m. fields_at one width m rest ≡ Ok later.0) k later.1 in
+    let first = bind_ok (one rest) (λ x. fields_at one width n (drop width rest) >>= λ ys. Ok (x ∷ ys)) later.0 step in
+    let taken : one rest ≡ Ok (from rest) = first.1 ∙ ap (λ (x : A). Ok x) (is_from rest first.0 first.1) in
+    goes_on one width front count i bytes (from rest) (Ok all) lt taken h
+
+pub is_done_checked : {A : Type 0} (one : List ℕ → Result A HeaderFault) (width : ℕ) (front : List A) (count i : ℕ) (bytes : List ℕ) (all : List A)
+    → count ≤ i
+    → with_front front (fields_at one width (count - i) (drop (width * i) bytes)) ≡ Ok all
+    → front ≡ all
+is_done_checked one width front count i bytes all le h = sym (ok_is all front (is_done one width front count i bytes (Ok all) le h))

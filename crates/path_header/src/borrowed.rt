@@ -15,7 +15,7 @@ use crate::writing::put;
 const SEG_ID_START: usize = META_LEN + 2;
 
 /// Does nothing; its contract tells the caller what holds for bytes that begin with a header.
-fn begins(bytes: &[u8])
+pub(crate) fn begins(bytes: &[u8])
     requires { has_header bytes.now ≡ true }
     ensures header { IsHeader (header_at_front bytes.now) }
     ensures long { header_len (header_at_front bytes.now) ≤ length bytes.now }

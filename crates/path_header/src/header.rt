@@ -1,10 +1,13 @@
-ghost use Rattle.std.specs.Prelude.{◌≡◌, ℕ, ◌<◌, ◌≤◌, ◌↔◌, IsTrue, length, slice_get, slice_set, Some, Ok, IfOk};
+ghost use Rattle.std.specs.Prelude.{◌≡◌, ℕ, ◌<◌, ◌≤◌, ◌↔◌, IsTrue, true, length, slice_get, slice_set, Some, Ok, IfOk};
 ghost use Rattle.path_header.specs.Value.{IsHeader, IsInSegment, header_len, lens_from, segment_at};
 ghost use Rattle.path_header.specs.Building.{first_header, new_header};
+ghost use Rattle.path_header.specs.Shown.{has_header, header_at_front};
 
+use crate::borrowed::begins;
 use crate::fault::HeaderFault;
 use crate::fields::{HopField, InfoField};
 use crate::lens::{HOP_LEN, INFO_LEN, MAX_HOPS, META_LEN, SegLens};
+use crate::reading::{add_hops, infos_in, meta_in, word_of};
 use arrayvec::ArrayVec;
 use std::marker::Model;
 
@@ -83,6 +86,28 @@ impl Header {
             infos,
             hops,
         )
+    }
+
+    /// The header at the front of these bytes, after a check found one there.
+    pub fn checked(bytes: &[u8]) -> Header
+        requires { has_header bytes.now ≡ true }
+        ensures { result ≡ header_at_front bytes.now }
+    {
+        begins(bytes);
+        let meta = meta_in(word_of(bytes));
+        let info_count = meta.lens.info_count();
+        let (_, after_meta) = bytes.split_at(META_LEN);
+        let (_, after_infos) = bytes.split_at(META_LEN + INFO_LEN * info_count);
+        let infos = infos_in(after_meta, info_count);
+        let mut hops = ArrayVec::new();
+        add_hops(&mut hops, after_infos, meta.lens.hop_count());
+        Header {
+            curr_inf: meta.curr_inf,
+            curr_hf: meta.curr_hf,
+            lens: meta.lens,
+            infos,
+            hops,
+        }
     }
 
     /// The header of these lengths and as many fields, with the packet at the first info and hop

@@ -1,13 +1,14 @@
-ghost use Rattle.std.specs.Prelude.{◌≡◌, ℕ, ◌+◌, ◌*◌, ◌<◌, ◌≤◌, nat_lt, List, ◌++◌, length, take, drop, Result, Ok, Err, IfOk, MatchResult};
+ghost use Rattle.std.specs.Prelude.{◌≡◌, ℕ, ◌+◌, ◌*◌, ◌<◌, ◌≤◌, nat_lt, List, [], ◌++◌, length, take, Result, Ok, IfOk};
 ghost use Rattle.path_header.specs.Value.{HeaderValue, AreLens, header_len, len_for};
 ghost use Rattle.path_header.specs.Spelling.{SpellsHeader};
-ghost use Rattle.path_header.specs.Reading.{word_at, reserved_bits, meta_from, meta_at, info_from, info_at, hop_from, hop_at, fields_at, header_at, read_at};
+ghost use Rattle.path_header.specs.Reading.{word_at, reserved_bits, meta_from, meta_at, info_from, info_at, hop_from, hop_at, fields_at, read_at};
 ghost use Rattle.refusal.specs.Refusal.{Gives};
 
+use crate::borrowed::HeaderMut;
 use crate::fault::HeaderFault;
 use crate::fields::{HopField, InfoField};
 use crate::header::Header;
-use crate::lens::{HOP_LEN, INFO_LEN, MAX_HOPS, META_LEN, SegLens};
+use crate::lens::{HOP_LEN, INFO_LEN, MAX_HOPS, SegLens};
 use crate::meta::Meta;
 use arrayvec::ArrayVec;
 use isd_as::IfId;
@@ -34,7 +35,8 @@ pub fn decode(bytes: &[u8]) -> Result<(Header, usize), HeaderFault>
     // The exact result, with its refusal.
     ensures exact { result ≡ read_at bytes.now }
 {
-    read(bytes)
+    let len = HeaderMut::check_len(bytes)?;
+    Ok((Header::checked(bytes), len))
 }
 
 /// The number in the first four bytes.
@@ -117,15 +119,6 @@ pub(crate) fn info_in(bytes: &[u8]) -> InfoField
     }
 }
 
-/// The info field at the front, if it passes `check_info`.
-fn info_of(bytes: &[u8]) -> Result<InfoField, HeaderFault>
-    requires { 8 ≤ length bytes.now }
-    ensures { result ≡ info_at bytes.now }
-{
-    check_info(bytes)?;
-    Ok(info_in(bytes))
-}
-
 /// Checks that in the hop field at the front no flag and no reserved bit is set.
 #[tactic(auto, unfolding(crate::specs::Reading::hop_at))]
 pub(crate) fn check_hop(bytes: &[u8]) -> Result<(), HeaderFault>
@@ -155,77 +148,35 @@ pub(crate) fn hop_in(bytes: &[u8]) -> HopField
     }
 }
 
-/// The hop field at the front, if it passes `check_hop`.
-fn hop_of(bytes: &[u8]) -> Result<HopField, HeaderFault>
-    requires { 12 ≤ length bytes.now }
-    ensures { result ≡ hop_at bytes.now }
-{
-    check_hop(bytes)?;
-    Ok(hop_in(bytes))
-}
-
-/// `count` info fields, one after another.
-fn infos_of(bytes: &[u8], count: usize) -> Result<ArrayVec<InfoField, 3>, HeaderFault>
+/// `count` info fields, one after another, which a check has passed.
+pub(crate) fn infos_in(bytes: &[u8], count: usize) -> ArrayVec<InfoField, 3>
     requires few { count ≤ 3 }
     requires long { 8 * count ≤ length bytes.now }
-    ensures len { IfOk result (λ v. length v.items ≡ count) }
-    ensures read { let read = fields_at info_at 8 count bytes.now in
-        MatchResult result (λ v. read ≡ Ok v.items) (λ e. read ≡ Err e) }
+    ensures len { length result.items ≡ count }
+    ensures read { (infos : List InfoField) → fields_at info_at 8 count bytes.now ≡ Ok infos
+        → result.items ≡ infos }
 {
     let mut infos = ArrayVec::new();
     for i in 0..count {
         let (_, rest) = bytes.split_at(INFO_LEN * i);
-        infos.push(info_of(rest)?);
+        infos.push(info_in(rest));
     }
-    Ok(infos)
+    infos
 }
 
-/// `count` hop fields, one after another.
-fn hops_of(bytes: &[u8], count: usize) -> Result<ArrayVec<HopField, MAX_HOPS>, HeaderFault>
+/// Adds `count` hop fields, one after another, which a check has passed, to an empty list.
+// A list that it returned would be moved twice more; inlined, its loop runs out of registers.
+#[inline(never)]
+pub(crate) fn add_hops(hops: &mut ArrayVec<HopField, MAX_HOPS>, bytes: &[u8], count: usize)
+    requires empty { hops.old.items ≡ [] }
     requires few { count ≤ 64 }
     requires long { 12 * count ≤ length bytes.now }
-    ensures len { IfOk result (λ v. length v.items ≡ count) }
-    ensures read { let read = fields_at hop_at 12 count bytes.now in
-        MatchResult result (λ v. read ≡ Ok v.items) (λ e. read ≡ Err e) }
+    ensures len { length hops.new.items ≡ count }
+    ensures read { (all : List HopField) → fields_at hop_at 12 count bytes.now ≡ Ok all
+        → hops.new.items ≡ all }
 {
-    let mut hops = ArrayVec::new();
     for i in 0..count {
         let (_, rest) = bytes.split_at(HOP_LEN * i);
-        hops.push(hop_of(rest)?);
+        hops.push(hop_in(rest));
     }
-    Ok(hops)
-}
-
-/// The header at the front, and the refusals of [`decode`].
-#[tactic(auto, unfolding(crate::specs::Reading::header_at))]
-fn header_of(bytes: &[u8]) -> Result<Header, HeaderFault>
-    ensures { result ≡ header_at bytes.now }
-{
-    let meta = meta_of(bytes)?;
-    let info_count = meta.lens.info_count();
-    let hop_count = meta.lens.hop_count();
-    let (_, after_meta) = bytes.split_at(META_LEN);
-    let infos = infos_of(after_meta, info_count)?;
-    let (_, after_infos) = bytes.split_at(META_LEN + INFO_LEN * info_count);
-    let hops = hops_of(after_infos, hop_count)?;
-    if usize::from(meta.curr_inf) >= info_count || usize::from(meta.curr_hf) >= hop_count {
-        return Err(HeaderFault::BadIndex);
-    }
-    Ok(Header {
-        curr_inf: meta.curr_inf,
-        curr_hf: meta.curr_hf,
-        lens: meta.lens,
-        infos,
-        hops,
-    })
-}
-
-/// The header at the front and its length in bytes; the public call adds the clauses about
-/// spellings.
-fn read(bytes: &[u8]) -> Result<(Header, usize), HeaderFault>
-    ensures { result ≡ read_at bytes.now }
-{
-    let header = header_of(bytes)?;
-    let len = header.encoded_len();
-    Ok((header, len))
 }
