@@ -1,14 +1,11 @@
 -- What is read of a whole packet, from its parts.
-use Rattle.std.proofs.Common.{◌≡◌, ℕ, ◌+◌, List, Result, Ok, Err, take, drop, refl, sym, ◌∙◌, ap}
+use Rattle.std.proofs.Common.{◌≡◌, ℕ, ◌+◌, List, Result, Ok, Err, take, drop, refl, ap}
 use Rattle.std.specs.Int.{w64, from_be_bytes}
 use Rattle.path_header.specs.Value.{HeaderValue, header_len}
-use Rattle.path_header.specs.Reading.{header_at, read_at}
-use Rattle.path_header.specs.declared.fault.HeaderFault.{HeaderFault}
-use Rattle.refusal.specs.Refusal.{◌>>=◌}
 use Rattle.scion_packet.specs.declared.fault.PacketFault.{PacketFault}
 use Rattle.scion_packet.specs.Value.{PacketInfoValue, WholePacketValue}
 use Rattle.scion_packet.specs.Layout.{path_place}
-use Rattle.scion_packet.specs.Reading.{path_place_in, check_lengths, path_header_in, packet_info_in, whole_packet_with, whole_packet_at}
+use Rattle.scion_packet.specs.Reading.{path_header_in, packet_info_in, whole_packet_with, whole_packet_at}
 
 -- packets whose parts are equal
 pub packet_like : (i i' : PacketInfoValue) (d d' s s' : ℕ) (h h' : HeaderValue) (p p' : List ℕ)
@@ -18,35 +15,6 @@ pub packet_like : (i i' : PacketInfoValue) (d d' s s' : ℕ) (h h' : HeaderValue
     let y : WholePacketValue =
     record { info = i'; destination = d'; source = s'; header = h'; payload = p' } in x ≡ y)
 packet_like i i' d d' s s' h h' p p' ei ed es eh ep = cc
-
--- what was read without its length
-abbrev header_of : Result (HeaderValue × ℕ) HeaderFault → Result HeaderValue HeaderFault
-header_of (Ok read) = Ok read.0
-header_of (Err fault) = Err fault
-
-header_of-read : (r : Result HeaderValue HeaderFault)
-    → header_of (r >>= λ (v : HeaderValue). Ok (v, header_len v)) ≡ r
-header_of-read (Ok v) = refl
-header_of-read (Err fault) = refl
-
-pub header_read : (packet : List ℕ) (place : ℕ) (front : HeaderValue × ℕ) (u : Unit {0})
-    → path_place_in packet ≡ Ok place → read_at (drop place packet) ≡ Ok front
-    → check_lengths packet (place + header_len front.0) ≡ Ok u → path_header_in packet ≡ Ok front.0
-unfolding path_header_in
-header_read packet place front u there decoded lengths =
-    let header : header_at (drop place packet) ≡ Ok front.0 =
-    sym (header_of-read (header_at (drop place packet))) ∙ ap header_of decoded in
-    rw (there, header, lengths) refl
-
-pub lengths_refused : (packet : List ℕ) (place : ℕ) (front : HeaderValue × ℕ) (fault : PacketFault)
-    → path_place_in packet ≡ Ok place → read_at (drop place packet) ≡ Ok front
-    → check_lengths packet (place + header_len front.0) ≡ Err fault
-    → path_header_in packet ≡ Err fault
-unfolding path_header_in
-lengths_refused packet place front fault there decoded lengths =
-    let header : header_at (drop place packet) ≡ Ok front.0 =
-    sym (header_of-read (header_at (drop place packet))) ∙ ap header_of decoded in
-    rw (there, header, lengths) refl
 
 -- a packet that was read
 abbrev pub read_as : WholePacketValue → Result WholePacketValue PacketFault

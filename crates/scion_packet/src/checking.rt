@@ -61,6 +61,12 @@ pub(crate) fn check_headers(packet: &[u8]) -> Result<usize, PacketFault>
     ensures place { IfOk result (λ place. place ≡ path_place packet.now) }
     ensures within { IfOk result (λ place. place ≤ length packet.now) }
     ensures begins { IfOk result (λ place. has_header (drop place packet.now) ≡ true) }
+    ensures version { OnOk result (slice_index packet.now 0 < 16) }
+    ensures path_type { OnOk result (slice_index packet.now 8 ≡ 1) }
+    ensures headers { IfOk result (λ place. announced_len packet.now
+        ≡ place + header_len (header_at_front (drop place packet.now))) }
+    ensures rest { IfOk result (λ place. announced_len packet.now + announced_payload packet.now
+        ≡ length packet.now) }
 {
     let place = path_place(packet)?;
     let (_, rest) = packet.split_at(place);

@@ -6,12 +6,12 @@ ghost use Rattle.scion_packet.specs.Spelling.{SpellsPacket};
 ghost use Rattle.scion_packet.specs.Layout.{path_place};
 ghost use Rattle.scion_packet.specs.Reading.{packet_info_in, whole_packet_at};
 
-use crate::checking::{check_lengths, host_lens, path_place};
+use crate::checking::{check_headers, host_lens};
 use crate::fault::PacketFault;
 use crate::host::HostAddress;
 use crate::layout::{COMMON_LEN, FLOW_BITS, HOST_TYPES, HOSTS_START, NEXT_HEADER, RESERVED};
 use crate::packet::{PacketInfo, WholePacket};
-use path_header::decode;
+use path_header::Header;
 use router_step::{destination_in, source_in};
 
 /// The whole packet that these bytes are, whose payload stays borrowed.
@@ -20,7 +20,6 @@ use router_step::{destination_in, source_in};
 /// [`PacketFault::BadVersion`], [`PacketFault::BadPathType`], [`PacketFault::ShortPacket`] if the
 /// addresses don't fit, [`PacketFault::BadHeader`] with the refusal of [`path_header::decode`],
 /// [`PacketFault::BadHeaderLength`], [`PacketFault::BadPayloadLength`].
-#[tactic(auto, unfolding(crate::specs::Reading::path_header_in))]
 pub fn read(packet: &[u8]) -> Result<WholePacket<'_>, PacketFault>
     // The bytes are the spelling of the packet that is returned.
     ensures found { IfOk result (λ p. SpellsPacket packet.now p) }
@@ -31,17 +30,12 @@ pub fn read(packet: &[u8]) -> Result<WholePacket<'_>, PacketFault>
     // The path header begins within the bytes.
     ensures place { OnOk result (path_place packet.now ≤ length packet.now) }
 {
-    let place = path_place(packet)?;
+    let place = check_headers(packet)?;
     // This comes before the path header, so that LLVM moves the header only once.
     let info = info_in(packet);
     let (_, rest) = packet.split_at(place);
-    let (header, len) = match decode(rest) {
-        Ok(front) => front,
-        Err(fault) => return Err(PacketFault::BadHeader(fault)),
-    };
-    let end = place + len;
-    check_lengths(packet, end)?;
-    let (_, payload) = packet.split_at(end);
+    let header = Header::checked(rest);
+    let (_, payload) = rest.split_at(header.encoded_len());
     let (_, addresses) = packet.split_at(COMMON_LEN);
     Ok(WholePacket {
         info,
