@@ -53,5 +53,6 @@ def settle(
         else:
             print(f"{name}: {path}: {first_difference(old[path], texts[path])}")
             print(f"{name}: if the source is right, `python3 .ci/gate {name} --write` writes it")
-    print(f"{name}: {len(texts)} compared, {len(others)} different")
+    told = "written" if given.write else "different"
+    print(f"{name}: {len(texts)} compared, {len(others)} {told}")
     return 1 if others and given.check else 0
