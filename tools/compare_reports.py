@@ -43,7 +43,7 @@ def read(path: str) -> Report:
         for number, line in enumerate(lines, 1):
             try:
                 one = json.loads(line)
-                if "link" in one:
+                if "link" in one or "cut" in one:
                     continue
                 for name in LISTS:
                     one[name] = None if one[name] is None else [*map(named, one[name])]

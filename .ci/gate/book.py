@@ -9,7 +9,7 @@ from pathlib import Path
 from typing import Any
 
 from gate.book_texts import (
-    ALL_PARTS, FIRST_HOUR, FIRST_PART, FRONT, LIBRARY, MOST_OUTSIDE, OUTSIDE,
+    ALL_PARTS, FIRST_HOUR, FIRST_PART, FRONT, LIBRARY, MOST_OUTSIDE, OF_CALLS, OUTSIDE,
 )
 from gate.printing import filled, settle
 from gate.specs import WORD, Definition, Module, Specs
@@ -301,14 +301,16 @@ class Book:
         first = "\n".join(self.first_hour())
         if (count := len(first.splitlines())) > MOST_IN_FIRST_HOUR:
             sys.exit(f"part 0 of the book has {count} lines, more than {MOST_IN_FIRST_HOUR}")
-        front = [FRONT.replace("PARTS", FIRST_PART), *self.words(self.signs_in(own)), first]
+        head = FRONT.replace("PARTS", FIRST_PART).replace("CONTRACTS", "")
+        front = [head, *self.words(self.signs_in(own)), first]
         rest = [*self.left_to_sentences(), *self.views(), WORDS_HEAD, *self.chapter(self.parts[1])]
         return "\n".join([*front, *rest]).rstrip("\n") + "\n"
 
     def text(self) -> str:
         """The page of all parts."""
         self.here = {it.anchor for it in self.printed}
-        front = [FRONT.replace("PARTS", ALL_PARTS), *self.words(self.signs), *self.table()]
+        head = FRONT.replace("PARTS", ALL_PARTS).replace("CONTRACTS", OF_CALLS)
+        front = [head, *self.words(self.signs), *self.table()]
         zero = [*self.first_hour(), *self.views(), WORDS_HEAD, *self.chapter(self.parts[1])]
         one = [REST, *self.chapter(self.parts[2])]
         two = [CLAUSES, *self.contracts(), BESIDE, *self.chapter(self.parts[3])]

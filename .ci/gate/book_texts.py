@@ -10,11 +10,11 @@ SENTENCE = """\
 # What the front says of the parts, on the page of the first one and on that of all.
 FIRST_PART = """\
 [The first hour](#part-0-the-first-hour) has the promise, the premises and what a turn does, from
-the top down. Each further word of it stands in [its words](#the-words-of-part-0), but for ten,
-which [end at a sentence](#what-part-0-leaves-to-a-sentence), and the types of refusals, which
-[refusals.md](refusals.md) lists. `python3 .ci/gate pages` makes a page of the whole book,
-`out/pages/book.md`: the rest of what the theorem cites, crate by crate, and the contracts of the
-two calls that run networks.
+the top down. Every other term is defined in [its words](#the-words-of-part-0), but for ten, which
+[a sentence](#what-part-0-leaves-to-a-sentence) sums up, and the types of refusals, which
+[refusals.md](refusals.md) lists. [proved.md](proved.md#sources) has the drafts. `python3 .ci/gate
+pages` makes a page of the whole book, `out/pages/book.md`: the rest of what the theorem cites,
+crate by crate, and the contracts of the two calls that run networks.
 
 `.ci/gate/book.py` prints this page from the crates, without imports; the gate checks that it is up
 to date. Nobody has to believe what is in `proofs/`. [headline.md](headline.md) says the same in
@@ -41,13 +41,12 @@ PARTS
 ## How to read it
 
 Above each definition stand its name and links to what it cites. A definition says what it takes and
-gives, and then what it is, case by case, of which the first that fits counts; lines that begin with
-`--` are comments. `abbrev` and `unfoldable` tell the prover when to look inside, and say nothing to
-a reader; `pub` lets other files cite it. A `record` holds if each of its fields does; a field that
-is a value says that there is one. `data` lists the forms of a value. A field that holds for each
-`k` can be applied: `forwarded k after quiet` is the `IsForwarded` for this `k`. The contract of a
-call is its `ensures`: what holds of `result` whenever it returns; `x.old` and `x.new` are an
-argument before and after the call, and `x.now` is what is lent to it.
+gives, and then what it is, case by case, of which the first that fits counts (`_` fits anything);
+lines that begin with `--` are comments. `abbrev` and `unfoldable` tell the prover when to look
+inside, and say nothing to a reader; `pub` lets other files cite it. A `record` holds if each of its
+fields does; a field that is a value says that there is one. `data` lists the forms of a value. A
+field that holds for each `k` can be applied: `forwarded k after quiet` is the `IsForwarded` for
+this `k`.CONTRACTS
 
 In a definition a value of the code is what it contains. Numbers of each size, addresses (`IsdAs`)
 and numbers of interfaces (`IfId`) are numbers; arrays, slices and vectors are lists, and bytes are
@@ -60,6 +59,10 @@ where a word is used.
 The words and signs of the toolchain's library and logic are not defined here; this table says what
 they mean. In a crate, `rt lemma slice_get` prints the definition of such a word.
 """
+
+# How contracts are read, which stand in the whole book alone.
+OF_CALLS = """ The contract of a call is its `ensures`: what holds of `result` whenever it returns;
+`x.old` and `x.new` are an argument before and after the call, and `x.now` is what is lent to it."""
 
 # The words of the library and the logic, as a reader meets them, and what they mean.
 LIBRARY = (
@@ -76,37 +79,45 @@ LIBRARY = (
      " }` is `x` with `f` changed; `let` names a value; `do` goes on with the value of each step"
      " (`x ← step`), up to the first refusal, and is short for `>>=`"),
     ("where infixl enum bool usize u8", "`where` stands before the fields or the forms; `infixl`"
-     " says how tightly a sign binds; `enum`, `bool`, `usize`, `u8` and the like are types of the"
+     " says how tightly a sign binds, whose arguments stand at each `◌`; `enum`, `bool`, `usize`, `u8` and the like are types of the"
      " code"),
-    ("+ - * / % ^ suc zero min", "of numbers; `-` ends at 0, `/` and `%` are quotient and rest,"
-     " `suc n` is `n + 1`"),
-    ("< ≤ nat_lt nat_le nat_cmp Ordering Less ordering_then", "comparisons, as statements, as tests"
-     " and with the result less, equal or greater; the second result, if the first is equal"),
-    ("== beq && || not if then else", "equality as a test, and, or, not; a choice by a test"),
+    ("+ - * / % ^", "of numbers; `-` ends at 0, `/` and `%` are quotient and rest"),
+    ("suc zero min", "`suc n` is `n + 1`; 0; the smaller of two numbers"),
+    ("< ≤ nat_lt", "comparisons, as statements; `<` as a test"),
+    ("nat_le nat_cmp Ordering Less ordering_then", "`≤` as a test; the comparison with the result"
+     " less, equal or greater; the second result, if the first is equal"),
+    ("== && || not if then else", "equality as a test, and, or, not; a choice by a test"),
+    ("beq", "equality of truth values, as a test"),
     ("bit_and bit_xor", "the bits that both have; exclusive or"),
     ("w16 w32 w64 to_be_bytes from_be_bytes", "numbers of 16, 32 and 64 bits as bytes, the highest"
      " first, and back"),
     ("List [] ∷ ++ length", "lists: the empty one; an item before a list; one list before another;"
      " how long it is"),
-    ("map filter filter_map flat_map fold", "each item changed; those that pass a test; those for"
-     " which something is given; the lists of all items joined; from a value on, a function applied"
-     " to it and each item in turn"),
-    ("take drop reverse replicate", "the first `n` items; all but these; backwards; one item `n`"
-     " times"),
-    ("slice_get slice_index slice_index_or slice_set", "item number `i`, counted from 0: if there"
-     " is one; or else 0; or else this one; the list with this item there"),
-    ("find list_any list_all count_by sum_by", "the first item that passes a test; whether some"
-     " does; whether all do; how many do; the sum of a number of each item"),
+    ("map filter_map flat_map fold", "each item changed; those for which something is given; the"
+     " lists of all items joined; from a value on, a function applied to it and each item in turn"),
+    ("filter", "the items that pass a test"),
+    ("take drop reverse", "the first `n` items; all but these; backwards"),
+    ("replicate", "one item `n` times"),
+    ("slice_get slice_set", "item number `i`, counted from 0, if there is one; the list with this"
+     " item there"),
+    ("slice_index slice_index_or", "item number `i`, or else 0; or else this one"),
+    ("find count_by sum_by", "the first item that passes a test; how many do; the sum of a number"
+     " of each item"),
+    ("list_any list_all", "whether some item passes a test; whether all do"),
     ("before_first after_first join_by", "what stands before, or after, the first item that passes"
      " a test; lists joined with something between them"),
-    ("All AllByRecursion Any AllPairs Contains", "the statement holds of each item; of some item;"
-     " of each item and each later one; the item is in the list"),
-    ("Option Some None is_none", "a value or none; whether there is none"),
-    ("option_map option_map_or option_and_then unwrap_or ok_or", "a function of the value, if there"
-     " is one; or else this; which may give none; the value or else this; or else a refusal"),
-    ("Result Ok Err IsOk is_err IfOk IfErr result_ok result_unwrap_or", "a value or a refusal; it"
-     " is a value; whether it is a refusal; the statement holds of the value, or of the refusal, if"
-     " it is one; the value as an option; the value or else this"),
+    ("All AllByRecursion Any", "the statement holds of each item, for both; of some item"),
+    ("AllPairs Contains", "the statement holds of each item and each later one; the item is in the"
+     " list"),
+    ("Option Some None", "a value or none"),
+    ("is_none", "whether there is no value"),
+    ("option_map_or unwrap_or ok_or", "a function of the value if there is one, or else this; the"
+     " value or else this; the value or else a refusal"),
+    ("option_map option_and_then", "a function of the value, if there is one; the same of one that"
+     " may give none"),
+    ("Result Ok Err result_unwrap_or", "a value or a refusal; the value or else this"),
+    ("IsOk is_err IfOk IfErr result_ok", "it is a value; whether it is a refusal; the statement"
+     " holds of the value, or of the refusal, if it is one; the value as an option"),
     ("codes chars is_utf8 bytes_eq", "the bytes of a text that is written out; the characters of"
      " bytes; whether bytes are UTF-8; whether two lists of bytes are the same"),
     ("decimal digits digit_value digits_value", "a number in decimal digits, or in those of a base;"
@@ -128,12 +139,15 @@ LIBRARY = (
 # it says in plain words.
 FIRST_HOUR: tuple[tuple[str, tuple[tuple[str, str], ...]], ...] = (
     (
-        "AS, beacon and segment are explained in [the tutorial](tutorial.md). A hop field is an"
+        "AS, ISD, beacon and segment are explained in [the tutorial](tutorial.md). A link joins two"
+        " interfaces, one of each AS, and each is owned by one router of its AS. A segment begins in"
+        " a core AS and goes on to other core ASes, or from parents to children; this is its"
+        " construction direction. A hop field is an"
         " AS's entry in a path, with its authenticator; an info field says how a segment is"
         " travelled, and has the accumulator, two bytes that chain its authenticators. What"
-        " `scionet run` answers to its lines is a run (`Ran`) of the events of these lines; that"
-        " this is a clause of the call is in part 2 of the whole book. A run has a history: what"
-        " happened, event by event.",
+        " `run_lines`, the call behind `scionet run`, answers to its lines is a run (`Ran`) of the"
+        " events of these lines; part 2 of the whole book has the clause of the call that says so. A"
+        " run has a history: what happened, event by event.",
         (
             ("network_core/Ran.Ran", "A run of these events: `network` is its topology, and `net`"
              " the network with which it ends."),
@@ -201,9 +215,10 @@ FIRST_HOUR: tuple[tuple[str, tuple[tuple[str, str], ...]], ...] = (
         (
             ("path_verifier/Accepted.IsAccepted", "The path may be sent."),
             ("path_verifier/Accepted.Keeps", "The rules (data plane draft, segment combinations,"
-             " without peering; the policies are scionproto's)."),
+             " without peering links; the policies are scionproto's). What `AclDenied` tells besides"
+             " is left out."),
             ("path_verifier/Accepted.Request", "What is judged: the pieces, the header, the ends,"
-             " the second and the policy's rules."),
+             " the current second and the policy's rules."),
             ("path_verifier/Piece.PieceValue", "A piece of a segment, travelled one way or the"
              " other (data plane draft, segment combinations)."),
             ("policy_expr/Policy.HasWord", "The hops match the sequence, a regular expression"
@@ -233,13 +248,14 @@ FIRST_HOUR: tuple[tuple[str, tuple[tuple[str, str], ...]], ...] = (
 # What part 0 names and ends at a sentence.
 OUTSIDE = (
     ("network_core/Step.Step", "One event, from the network before it to its reply and the network"
-     " after it. A Turn does as `turns` says. A Send is refused if there is no such way, if the way"
-     " breaks a rule, if its source or its first way out is not in the topology, or if a million"
-     " packets were sent; else the packet is at the router that owns the first way out. Tick moves"
-     " the clock on, never back; Originate, Extend and Terminate make beacons over links that are"
-     " up, with the key in use, and register segments; Sweep drops expired segments; Ask gives an"
-     " answer; Lose and Alter harm a packet; CutLink, MendLink and RotateKey change the topology."
-     " By `Leads`, a refused event changes nothing."),
+     " after it. A Turn does as `turns` says. A Send is refused if there is no such way, if the"
+     " payload has more than 1,024 bytes, if the way breaks a rule, if its source or the interface"
+     " by which its walk begins is not in the topology, or if a million packets were sent; else the"
+     " packet is at the router that owns this interface. Tick moves the clock on, never back;"
+     " Originate, Extend and Terminate make beacons over links that are up, with the key in use, and"
+     " register segments; Sweep drops expired segments; Ask gives an answer; Lose and Alter lose a"
+     " packet and change a byte of it; CutLink, MendLink and RotateKey change the topology. An event"
+     " that is refused changes nothing."),
     ("network_core/Step.shipment_by", "What a Send sends: the payload, and the way of an answer, a"
      " given way or the way back of a delivered packet, which has no policy; or why there is"
      " none."),

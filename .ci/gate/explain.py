@@ -13,6 +13,7 @@ import os
 import re
 import sys
 from collections.abc import Iterator, Sequence
+from pathlib import Path
 from typing import Any
 
 from gate import TOP, children
@@ -22,8 +23,12 @@ from gate.words import reader
 SAID = re.compile(rb"line (\d+): (warning: |(?:topology )?no \d+ \w+: )")
 
 
+# The programs, which `rt ci` has built if no others are named.
+PROGRAMS = {name: TOP / "crates" / name / "out" / name for name in ("scionet", "scionet_view")}
+
+
 def program(name: str) -> str:
-    path = TOP / "crates" / name / "out" / name
+    path = PROGRAMS[name]
     if not os.access(path, os.X_OK):
         sys.exit(f"explain: {path} is not there: rt ci builds it")
     return str(path)
@@ -108,7 +113,11 @@ def networks() -> Iterator[tuple[str, bytes]]:
 
 
 def main(words: Sequence[str]) -> int:
-    reader(__name__, __doc__).parse_args(words)
+    words_of = reader(__name__, __doc__)
+    words_of.add_argument("programs", nargs="?", type=Path, metavar="FOLDER",
+                          help="where scionet and scionet_view are, as out/unproved")
+    if folder := words_of.parse_args(words).programs:
+        PROGRAMS.update({name: folder.resolve() / name for name in PROGRAMS})
     row = (TOP / "examples/row.txt").read_text(encoding="utf-8").splitlines()
     table = (TOP / "cases/explain/faults.jsonl").read_text(encoding="utf-8").splitlines()
     faults = [json.loads(line) for line in table]

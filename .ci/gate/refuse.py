@@ -154,18 +154,19 @@ class Subject:
 
 
 class Program(Subject):
-    """A program with some words: what it is given, and what it has to write."""
+    """A program with some words: what it is given, what it has to write, and what it then remarks
+    on standard error."""
 
     def __init__(self, words: list[str], given: bytes, answer: bytes,
-                 name: str = "scionet") -> None:
+                 name: str = "scionet", remark: bytes = b"") -> None:
         self.name, self.given, self.answer = " ".join([name, *words]), given, answer
-        self.words = [executable(name, name), *words]
+        self.words, self.remark = [executable(name, name), *words], remark
         self.told = f"{name}: out of memory\n".encode()
 
     def is_right(self, run: Run) -> bool:
-        if (run.status, run.output, run.errors) == (0, self.answer, b""):
+        if (run.status, run.output, run.errors) == (0, self.answer, self.remark):
             return True
-        is_told = (run.status, run.errors) == (1, self.told)
+        is_told = run.status == 1 and run.errors in (self.told, self.told + self.remark)
         is_whole = run.output[-1:] in (b"", b"\n")
         return run.was_refused and is_told and is_whole and self.answer.startswith(run.output)
 
@@ -223,6 +224,15 @@ class Test(Subject):
             yield "an answer was kept in each run"
 
 
+def remark(replies: bytes) -> bytes:
+    """What the report of a network remarks, of whose lines one was refused."""
+    refused = [place for place, it in enumerate(replies.splitlines(), 1) if it.startswith(b"no ")]
+    if len(refused) != 1:
+        stop(f"of the lines of a network {len(refused)} are refused, and not one")
+    told = f"line {refused[0]} was refused: 'scionet_view explain' says why"
+    return f"scionet_view: {told}\n".encode()
+
+
 def programs() -> Iterator[Subject]:
     """A run over a row of ASes, a run with policies, the report of the row, and packets that are
     sent twice by the path of the first and carried by workers."""
@@ -231,7 +241,7 @@ def programs() -> Iterator[Subject]:
     yield Lines(["run"], *case(POLICIES))
     yield Explanations(given.splitlines(True)[0] + FAULTY)
     reports = children.output([executable("scionet_view", "scionet_view"), "report"], given)
-    yield Program(["report"], given, reports, "scionet_view")
+    yield Program(["report"], given, reports, "scionet_view", remark(answer))
     lines, replies = given.splitlines(True), answer.splitlines(True)
     at = next(place for place, line in enumerate(lines) if b'"send"' in line)
     twice = b"".join([*lines[:at], lines[at], lines[at]])

@@ -4,10 +4,11 @@ Each network is beaconed by `scionet_view beacons`, and some of its links are cu
 `scionet_view report` has to be what is computed here from the answers of `scionet run`: the paths
 none of whose links is down, the best of them, how many links may be lost before none is left, the
 links that all of them cross, the ASes that all of them pass, and at the end the links that most
-pairs need; with a policy and without one, and also where there are as many paths as the limit. The
-same has to stand in the lines of `--json`. Of some pairs the answers are compared with the search
-of `answers.py` over the segments, which tries every list of pieces. Then a link between two ISDs is
-cut: exactly the pairs that need it lose their paths, and so `tools/compare_reports.py` says.
+pairs need, and those that are cut; with a policy and without one, and also where there are as many
+paths as the limit. The same has to stand in the lines of `--json`. Of some pairs the answers are
+compared with the search of `answers.py` over the segments, which tries every list of pieces. Then a
+link between two ISDs is cut: exactly the pairs that need it lose their paths, and so
+`tools/compare_reports.py` says.
 
 The last line has the number of lines, of networks, and of what was wrong; the status is 1 where
 something was."""
@@ -148,11 +149,14 @@ class Network:
         return line + " through " + " ".join([str(len(through)), *through]), needed
 
     def summary(self, needs: list[list[str]]) -> list[str]:
-        """The lines at the end, for the links that the pairs need."""
+        """The lines at the end, for the links that the pairs need, and for those that are cut."""
         links = [named(link.ends) for link in self.topology.links]
         counts = {link: sum(link in needed for needed in needs) for link in links}
         ranked = sorted((it for it in links if counts[it]), key=lambda it: -counts[it])
-        return [f"link {it} pairs {counts[it]}" for it in ranked[:NAMED]]
+        cut = [named(link.ends) for link in self.topology.links if link.ends[0] in self.down]
+        return [f"link {it} pairs {counts[it]}" for it in ranked[:NAMED]] + [
+            f"cut {it}" for it in cut
+        ]
 
 
 def counted(told: str, begin: str, limit: int) -> str:
@@ -235,7 +239,8 @@ def cut_core() -> Compared:
     ia, number = CORE.split("~")[0].split("#")
     cut = json.dumps({"do": "cut", "ia": ia, "if": int(number)})
     reports = (ran([VIEW, "report"], "\n".join(it) + "\n") for it in (lines, lines + [cut]))
-    before, after = ([it for it in report if not it.startswith("link ")] for report in reports)
+    last = ("link ", "cut ")
+    before, after = ([it for it in report if not it.startswith(last)] for report in reports)
     wrong = []
     for line, later in zip(before, after):
         one, other = line.split(" ")[:2]
@@ -262,6 +267,8 @@ def as_text(line: str) -> str:
     one = json.loads(line)
     if "link" in one:
         return f"link {link_text(one['link'])} pairs {one['pairs']}"
+    if "cut" in one:
+        return f"cut {link_text(one['cut'])}"
     told = f"{one['from']} {one['to']} paths {one['paths']}" + ("+" if one["more"] else "")
     if not one["paths"]:
         return told
@@ -279,7 +286,7 @@ def compared_json(network: Network, limit: int) -> Compared:
     words = [VIEW, "report", "--limit", str(limit)]
     texts, objects = ran(words, given), ran([*words, "--json"], given)
     if texts == [BARE]:
-        texts = [as_text(it) for it in objects if '"paths":0,' in it]
+        texts = [as_text(it) for it in objects if '"paths":0,' in it or '{"cut":' in it]
     both = [*itertools.zip_longest(map(as_text, objects), texts)]
     return len(both), [f"--json: {one!r}, not {other!r}" for one, other in both if one != other]
 
@@ -301,20 +308,23 @@ def told_cut(before: list[str], after: list[str]) -> list[str]:
 
 
 def refusals() -> Iterator[str]:
-    """What is refused: words with status 2, and addresses of no AS or of one."""
+    """What is refused: words with status 2, and addresses of no AS or of one with status 1."""
     lines = (TOP / PAIR).read_text()
     rows = (
-        (["--to", "1-ff00:0:119"], 0, "no 14 UnknownAs\n"),
-        (["--from", "1-ff00:0:110", "--to", "1-ff00:0:110"], 0, "no 85 SameAs\n"),
-        (["--acl", "- 1"], 2, "65 NoDefault: the last entry of a list has no predicate\n"),
-        (["--sequence", "(1"], 2, "62 Unbalanced: the parentheses of a sequence don't match\n"),
-        (["--from", "1"], 2, "1 NoDash: an address has a '-' between its ISD and its AS number\n"),
+        (["--to", "1-ff00:0:119"], 1, "to 1-ff00:0:119: no 14 UnknownAs: an AS is not listed\n"),
+        (["--from", "1-ff00:0:110", "--to", "1-ff00:0:110"], 1,
+         "from 1-ff00:0:110 to 1-ff00:0:110: no 85 SameAs: the source and the destination are one "
+         "AS\n"),
+        (["--acl", "- 1"], 2, "no 65 NoDefault: the last entry of a list has no predicate\n"),
+        (["--sequence", "(1"], 2, "no 62 Unbalanced: the parentheses of a sequence don't match\n"),
+        (["--from", "1"], 2,
+         "no 1 NoDash: an address has a '-' between its ISD and its AS number\n"),
     )
     for words, status, text in rows:
-        text = f"scionet_view: no {text}" if status else text
+        text = f"scionet_view: {text}"
         done = children.run([VIEW, "report", *words], lines.encode())
-        found = (done.stderr if status else done.stdout).decode()
-        if done.returncode != status or found != text:
+        found = done.stderr.decode()
+        if done.returncode != status or done.stdout or found != text:
             yield f"{words}: status {done.returncode}, {found!r}, not {text!r}"
     if (found := ran([VIEW, "report"], lines.splitlines()[0])) != [BARE]:
         yield f"a network without segments: {found}"

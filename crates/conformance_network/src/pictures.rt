@@ -54,9 +54,9 @@ const ROW_DRAWN: &str = concat!(
     "\n",
     r#"labeljust=c; fontsize=11; label="thick: a link between core ASes    "#,
     r"arrow: a link to a child    dashed: a link that is cut\n",
-    r"r0, r1: routers    numbers: interfaces    gray: which router has which interface\n",
-    "bold box: a core AS    red: links of the packet or the path, ",
-    r#"and where the packet is"; }"#,
+    r"r0, r1: routers    numbers: interfaces    gray line: which router has which interface\n",
+    r"bold box: a core AS    red: links of the packet or the path, and where the packet is\n",
+    r#"gray box: an AS outside the part that is shown"; }"#,
     "\n",
 );
 
@@ -160,8 +160,8 @@ fn core_ases_drawn(alloc: Global, count: usize) -> Result<String, AllocError> {
     picture.push_str(concat!(
         r#"labeljust=c; fontsize=11; label="point with two lines: a link between core ASes    "#,
         r"arrow: a link to a child    dashed: a link that is cut    blue: interfaces\n",
-        "bold box: a core AS    red: links of the packet or the path, ",
-        r#"and where the packet is"; }"#,
+        "bold box: a core AS    gray name: an AS outside the part that is shown    ",
+        r#"red: links of the packet or the path, and where the packet is"; }"#,
         "\n",
     ))?;
     Ok(picture)

@@ -106,6 +106,6 @@ abbrev pub detailed_legend : List ℕ
 detailed_legend =
     codes "labeljust=c; fontsize=11; label=\"thick: a link between core ASes    "
     ++ codes "arrow: a link to a child    dashed: a link that is cut\\n"
-    ++ codes "r0, r1: routers    numbers: interfaces    gray: which router has which interface\\n"
-    ++ codes "bold box: a core AS    red: links of the packet or the path, "
-    ++ codes "and where the packet is\"; }\n"
+    ++ codes "r0, r1: routers    numbers: interfaces    gray line: which router has which "
+    ++ codes "interface\\nbold box: a core AS    red: links of the packet or the path, "
+    ++ codes "and where the packet is\\ngray box: an AS outside the part that is shown\"; }\n"

@@ -100,5 +100,5 @@ abbrev pub overview_legend : List ℕ
 overview_legend =
     codes "labeljust=c; fontsize=11; label=\"point with two lines: a link between core ASes    "
     ++ codes "arrow: a link to a child    dashed: a link that is cut    blue: interfaces\\n"
-    ++ codes "bold box: a core AS    red: links of the packet or the path, "
-    ++ codes "and where the packet is\"; }\n"
+    ++ codes "bold box: a core AS    gray name: an AS outside the part that is shown    "
+    ++ codes "red: links of the packet or the path, and where the packet is\"; }\n"

@@ -31,8 +31,8 @@ pub(crate) fn legend() -> &'static str
 {
     "labeljust=c; fontsize=11; label=\"thick: a link between core ASes    arrow: a \
      link to a child    dashed: a link that is cut\\nr0, r1: routers    numbers: interfaces    \
-     gray: which router has which interface\\nbold box: a core AS    red: links of the packet or \
-     the path, and where the packet is\"; }\n"
+     gray line: which router has which interface\\nbold box: a core AS    red: links of the packet \
+     or the path, and where the packet is\\ngray box: an AS outside the part that is shown\"; }\n"
 }
 
 /// The look of a router.

@@ -30,7 +30,8 @@ pub(crate) fn legend() -> &'static str
 {
     "labeljust=c; fontsize=11; label=\"point with two lines: a link between core ASes    arrow: a \
      link to a child    dashed: a link that is cut    blue: interfaces\\nbold box: a core AS    \
-     red: links of the packet or the path, and where the packet is\"; }\n"
+     gray name: an AS outside the part that is shown    red: links of the packet or the path, and \
+     where the packet is\"; }\n"
 }
 
 /// The look of an AS.

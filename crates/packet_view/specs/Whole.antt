@@ -7,6 +7,8 @@ use Rattle.refusal.specs.Optional.{◌>>=◌}
 use Rattle.refusal.specs.Fault.{code_text}
 use Rattle.path_header.specs.Value.{HeaderValue}
 use Rattle.path_header.specs.Reading.{word_at}
+use Rattle.scion_topology.specs.View.{View}
+use Rattle.router_step.specs.declared.arrival.Arrival.{Arrival}
 use Rattle.router_step.specs.declared.outcome.Outcome.{Outcome}
 use Rattle.router_step.specs.declared.fault.Refusal.TheVariants as refusals
 use Rattle.router_step.specs.Packet.{header_in}
@@ -138,6 +140,12 @@ whole_lines turn packet =
     whole_fields_text packet
     ++ ((headers_side packet ++ verdict_text turn packet (path_header_in packet))
     ++ turned_line (whole_packet_step turn.view turn.moment turn.arrival packet))
+
+-- the lines about a whole packet that comes by this arrival to a router with this view
+unfoldable pub whole_turn_lines : (view : View) (now : ℕ) (arrival : Arrival) (packet : List ℕ)
+    → List ℕ
+whole_turn_lines view now arrival packet =
+    whole_lines (record { view = view; moment = now; arrival = arrival }) packet ++ codes "\n"
 
 unfoldable pub whole_lines_of : Turn → List ℕ → Option (List ℕ)
 whole_lines_of turn text = do

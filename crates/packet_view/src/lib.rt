@@ -19,8 +19,11 @@ mod sides;
 mod situation;
 mod turned;
 mod whole;
+mod whole_checks;
+mod whole_turn;
 
 pub use fields::fields_text;
 pub use lines::packet_lines;
 pub use turned::turn_lines;
-pub use whole::{packet_fault_line, whole_packet_lines};
+pub use whole::{packet_fault_line, whole_fields_text};
+pub use whole_turn::{whole_packet_lines, whole_turn_lines};

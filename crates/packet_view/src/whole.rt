@@ -1,24 +1,20 @@
-//! The output of `scionet_view packet --whole` about a packet.
+//! The fields of a whole packet.
 
-ghost use Rattle.std.specs.Prelude.{◌≡◌, ◌+◌, ◌*◌, ◌≤◌, ◌++◌, length, slice_index, take, drop, codes, IfOk, OnOk};
+ghost use Rattle.std.specs.Prelude.{◌≡◌, ◌+◌, ◌*◌, ◌≤◌, ◌++◌, length, slice_index, take, drop, IfOk, OnOk};
 ghost use Rattle.std.specs.Fmt.{decimal};
 ghost use Rattle.std.specs.String.{string_bytes};
-ghost use Rattle.step_line.specs.Fault.{PrintsTurn};
 ghost use Rattle.scion_packet.specs.Layout.{announced_len, announced_payload, destination_host_len, path_place, source_host_len};
-ghost use Rattle.scion_packet.specs.Reading.{path_header_in, whole_packet_at};
-ghost use Rattle.scion_packet.specs.Turn.{whole_packet_step};
+ghost use Rattle.scion_packet.specs.Reading.{whole_packet_at};
 ghost use Rattle.packet_view.specs.Fields.{field_text};
-ghost use Rattle.packet_view.specs.Whole.{announced_text, behind_common_text, common_back_text, common_front_text, first_text, frame_checks_text, headers_side, host_types_text, hosts_text, lengths_text, packet_fault_line, turn_refusal_line, turned_line, verdict_text, whole_fields_text, whole_lines, whole_lines_behind, whole_lines_of};
+ghost use Rattle.packet_view.specs.Whole.{announced_text, behind_common_text, common_back_text, common_front_text, first_text, host_types_text, hosts_text, lengths_text, packet_fault_line, whole_fields_text, whole_lines_behind};
 
 use crate::fields::{add_addresses, add_behind, add_field};
-use crate::lines::add_checks;
 use crate::part::Part;
 use refusal::NumberedFault;
 use router_step::Refusal;
-use scion_packet::{PacketFault, PacketInfo, TurnRefusal, read, turn};
-use separators::bytes::trim;
+use scion_packet::{PacketFault, PacketInfo, read};
 use std::alloc::{AllocError, Global};
-use step_line::{StepCommand, TurnFault, bytes, outcome_line, refusal_line};
+use step_line::refusal_line;
 
 /// The length of a common header.
 const COMMON_LEN: usize = 12;
@@ -210,7 +206,7 @@ fn add_hosts(
 }
 
 /// The frame of a whole packet.
-fn frame_in(alloc: Global, packet: &[u8]) -> Result<Vec<u8>, AllocError>
+pub(crate) fn frame_in(alloc: Global, packet: &[u8]) -> Result<Vec<u8>, AllocError>
     requires common { 12 ≤ length packet.now }
     requires place { path_place packet.now ≤ length packet.now }
     ensures value { IfOk result (λ frame. frame.items
@@ -267,6 +263,15 @@ fn add_rest(alloc: Global, text: &mut String, packet: &[u8]) -> Result<(), Alloc
     }
 }
 
+/// The lines of all fields of a whole packet. [`AllocError`] if memory runs out.
+pub fn whole_fields_text(alloc: Global, packet: &[u8]) -> Result<String, AllocError>
+    ensures { IfOk result (λ text. string_bytes text ≡ whole_fields_text packet.now) }
+{
+    let mut text = String::new(alloc);
+    add_whole_fields(alloc, &mut text, packet)?;
+    Ok(text)
+}
+
 /// Adds the lines of all fields of a whole packet.
 #[tactic(auto, unfolding(crate::specs::Whole::whole_fields_text))]
 fn add_whole_fields(alloc: Global, text: &mut String, packet: &[u8]) -> Result<(), AllocError>
@@ -292,109 +297,4 @@ pub fn packet_fault_line(alloc: Global, fault: PacketFault) -> Result<String, Al
         PacketFault::BadHeader(header) => refusal_line(alloc, Refusal::BadHeader(header)),
         _ => format!(in alloc; "refused {} {}", fault.code(), fault.name()),
     }
-}
-
-/// The line of the turn, without its end.
-fn turned_line(
-    alloc: Global,
-    command: &StepCommand,
-    packet: &mut [u8],
-) -> Result<String, AllocError>
-    ensures { let turn = command.now in IfOk result (λ line. string_bytes line
-        ≡ turned_line (whole_packet_step turn.view turn.moment turn.arrival packet.old)) }
-{
-    match turn(&command.view(), command.moment(), command.arrival(), packet) {
-        Ok(outcome) => outcome_line(alloc, outcome, packet),
-        Err(TurnRefusal::Packet(fault)) => packet_fault_line(alloc, fault),
-        Err(TurnRefusal::Step(refusal)) => refusal_line(alloc, refusal),
-    }
-}
-
-/// Adds the sides of the check of all headers.
-#[tactic(auto, unfolding(crate::specs::Whole::headers_side))]
-fn add_headers_side(text: &mut String, packet: &[u8]) -> Result<(), AllocError>
-    ensures { OnOk result
-        (string_bytes text.new ≡ string_bytes text.old ++ headers_side packet.now) }
-{
-    let len = packet.len();
-    write!(text, "0 headers: a whole packet of {len} bytes: ")
-}
-
-/// Adds the checks of the turn's router on the frame of a whole packet, up to the first that fails.
-fn add_frame_checks(
-    alloc: Global,
-    text: &mut String,
-    command: &StepCommand,
-    packet: &[u8],
-) -> Result<(), AllocError>
-    requires common { 12 ≤ length packet.now }
-    requires place { path_place packet.now ≤ length packet.now }
-    ensures { OnOk result (string_bytes text.new ≡ string_bytes text.old
-        ++ frame_checks_text command.now packet.now) }
-{
-    let frame = frame_in(alloc, packet)?;
-    add_checks(alloc, text, command, &frame)
-}
-
-/// Adds the verdict of the check of all headers, and the checks of the turn's router.
-fn add_verdict(
-    alloc: Global,
-    text: &mut String,
-    command: &StepCommand,
-    packet: &[u8],
-) -> Result<(), AllocError>
-    ensures { OnOk result (string_bytes text.new ≡ string_bytes text.old
-        ++ verdict_text command.now packet.now (path_header_in packet.now)) }
-{
-    match read(packet) {
-        Ok(_) => {
-            text.push_str("ok\n")?;
-            add_frame_checks(alloc, text, command, packet)
-        }
-        Err(fault) => {
-            text.push_str(packet_fault_line(alloc, fault)?.as_str())?;
-            text.push_str("\n")
-        }
-    }
-}
-
-/// Adds the check of all headers, and the checks of the turn's router up to the first that fails.
-fn add_whole_checks(
-    alloc: Global,
-    text: &mut String,
-    command: &StepCommand,
-    packet: &[u8],
-) -> Result<(), AllocError>
-    ensures { OnOk result (string_bytes text.new ≡ string_bytes text.old
-        ++ (headers_side packet.now
-        ++ verdict_text command.now packet.now (path_header_in packet.now))) }
-{
-    add_headers_side(text, packet)?;
-    add_verdict(alloc, text, command, packet)
-}
-
-/// The lines about the whole packet that the text gives in hexadecimal, at the router of this turn,
-/// as [`packet_lines`](crate::packet_lines) has them of a frame: the fields of the common header,
-/// of the addresses, of the path header and the payload; the check of all headers, and those of the
-/// router up to the first that fails; and the line of the turn, which has no line end. Of bytes
-/// that are no whole packet, what stands behind the common header is one line.
-///
-/// [`TurnFault::PacketText`] if the text is not hexadecimal digits, two for each byte;
-/// [`TurnFault::Memory`] if memory runs out.
-#[tactic(auto, unfolding(crate::specs::Whole::whole_lines_of))]
-pub fn whole_packet_lines(
-    alloc: Global,
-    command: &StepCommand,
-    text: &[u8],
-) -> Result<String, TurnFault>
-    ensures { PrintsTurn result (whole_lines_of command.now text.now) }
-{
-    let Some(mut packet) = bytes(alloc, trim(text))? else {
-        return Err(TurnFault::PacketText);
-    };
-    let mut lines = String::new(alloc);
-    add_whole_fields(alloc, &mut lines, &packet)?;
-    add_whole_checks(alloc, &mut lines, command, &packet)?;
-    lines.push_str(turned_line(alloc, command, &mut packet)?.as_str())?;
-    Ok(lines)
 }

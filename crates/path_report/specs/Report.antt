@@ -10,6 +10,7 @@ use Rattle.path_report.specs.declared.pair.AsPair.{AsPair}
 use Rattle.path_report.specs.declared.summary.RankedLink.{RankedLink}
 use Rattle.path_report.specs.Pair.{PairValue, IsPairReport}
 use Rattle.path_report.specs.Line.{pair_line}
+use Rattle.path_report.specs.Cut.{cut_lines}
 use Rattle.path_report.specs.Json.{pair_json, rank_json}
 use Rattle.path_report.specs.Summary.{IsRanking, rank_line}
 
@@ -55,8 +56,8 @@ abbrev pub rank_text : (json : Bool) → RankedLink → List ℕ
 rank_text true ranked = rank_json ranked
 rank_text false ranked = rank_line ranked
 
--- the text has a line for each pair of the list, and then one for each of the first 10 links that
--- most of them need
+-- the text has a line for each pair of the list, then one for each of the first 10 links that most
+-- of them need, and one for each link that is cut
 pub record IsReport (net : NetValue) (wanted : ReportOptionsValue) (text : List ℕ) : Type 0 where
   pub reports : List PairValue
   pub pairs : map (λ report. report.pair) reports ≡ pairs_of wanted net.network.ases
@@ -64,7 +65,8 @@ pub record IsReport (net : NetValue) (wanted : ReportOptionsValue) (text : List 
   pub ranked : List RankedLink
   pub ranking : IsRanking net.network.links reports ranked
   pub says : text ≡ flat_map (pair_text wanted.json) reports
-      ++ flat_map (rank_text wanted.json) (take 10 ranked)
+      ++ (flat_map (rank_text wanted.json) (take 10 ranked)
+      ++ cut_lines wanted.json net.network.links)
 
 -- the text is a beginning of the lines of the first pairs
 pub record BeginsLines (net : NetValue) (wanted : ReportOptionsValue) (text : List ℕ) : Type 0 where

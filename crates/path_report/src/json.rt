@@ -3,6 +3,7 @@
 
 ghost use Rattle.std.specs.Prelude.{◌≡◌, ◌++◌, codes, flat_map, OnOk};
 ghost use Rattle.std.specs.String.{string_bytes};
+ghost use Rattle.path_report.specs.Cut.{cut_json};
 ghost use Rattle.path_report.specs.Json.{address_json, ases_json, best_json, bool_json, counted_json, end_json, is_known, items_json, known_json, link_json, links_json, needed_json, pair_json, rank_json};
 
 use crate::best::BestPath;
@@ -202,4 +203,14 @@ pub(crate) fn add_json_rank(text: &mut String, ranked: &RankedLink) -> Result<()
     text.push_str("{\"link\":")?;
     add_link(text, &ranked.link)?;
     write!(text, ",\"pairs\":{pairs}}}\n")
+}
+
+/// Adds the line of a link that is cut.
+#[tactic(auto, unfolding(crate::specs::Cut::cut_json))]
+pub(crate) fn add_json_cut(text: &mut String, link: &Link) -> Result<(), AllocError>
+    ensures { OnOk result (string_bytes text.new ≡ string_bytes text.old ++ cut_json link.now) }
+{
+    text.push_str("{\"cut\":")?;
+    add_link(text, link)?;
+    text.push_str("}\n")
 }

@@ -188,8 +188,8 @@ fn write_pairs<K: Sink>(
 }
 
 /// Writes the report of a network at its second: a line for each wanted pair of ASes, in the order
-/// of the topology, and a line for each of the links that most pairs need, at most
-/// [`MAX_RANKED_LINKS`].
+/// of the topology; a line for each of the links that most pairs need, at most
+/// [`MAX_RANKED_LINKS`]; and a line for each link that is cut.
 ///
 /// The line of a pair is `FROM TO paths N hops H until S survives K needs L LINK.. through A AS..`.
 /// Its N paths have different walks, whose links are all up. The best of them has H hops, which are
@@ -199,12 +199,12 @@ fn write_pairs<K: Sink>(
 /// are as many walks as the limit, there may be more: N is followed by `+`, and the line ends with
 /// `survives unknown needs unknown through unknown`. The best path is that of an answer with at
 /// most as many paths as the limit; H and S are `unknown` if there is none in it. The line of a
-/// link is `link LINK pairs N`.
+/// link is `link LINK pairs N`, or `cut LINK`.
 ///
 /// As JSON, a pair has the members `from`, `to`, `paths`, `more` (whether there may be more paths),
 /// `hops`, `until`, `survives` (3: at least 3), `needs` and `through`; a link those of a topology,
 /// `a` and `b`, each with `ia` and `if`. What is not known, or if there is no path, is `null`. A
-/// link of the last lines has `link` and `pairs`.
+/// link of the last lines has `link` and `pairs`, or `cut`.
 ///
 /// For each pair it takes the time of [`walks_between`](combinator::walks_between), and of each
 /// walk for a search of the link at each of its hops; that of

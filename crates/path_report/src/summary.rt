@@ -1,4 +1,4 @@
-//! The links that most pairs of ASes need.
+//! The links that most pairs of ASes need, and those that are cut.
 #![tactic(auto, unfolding(crate::specs::Summary::rank_line))]
 
 ghost use Rattle.std.specs.Prelude.{◌≡◌, ◌++◌, IfOk, IsPermutation, IsSorted, OnOk, flat_map};
@@ -7,6 +7,7 @@ ghost use Rattle.path_report.specs.Summary.{IsRanking, needs, pairs_needing, ran
 ghost use Rattle.path_report.specs.Report.{rank_text};
 ghost use Rattle.path_report.specs.inner.Named.{IsSummary, is_among, is_same};
 
+use crate::cut::add_cut_links;
 use crate::json::add_json_rank;
 use crate::line::add_link;
 use crate::pair::PairReport;
@@ -140,7 +141,7 @@ fn rank_lines(alloc: Global, json: bool, ranked: &[RankedLink]) -> Result<String
     Ok(text)
 }
 
-/// The lines of the links that most pairs need.
+/// The lines of the links that most pairs need, and of those that are cut.
 pub(crate) fn summary_text(
     alloc: Global,
     json: bool,
@@ -151,5 +152,7 @@ pub(crate) fn summary_text(
 {
     let mut ranked = ranked_links(alloc, links, reports)?;
     ranked.truncate(MAX_RANKED_LINKS);
-    rank_lines(alloc, json, &ranked)
+    let mut text = rank_lines(alloc, json, &ranked)?;
+    add_cut_links(&mut text, json, links)?;
+    Ok(text)
 }

@@ -9,26 +9,27 @@ use network_view::{Centre, Extent};
 use std::alloc::{AllocError, Global};
 use step_line::number;
 
-/// The options of `network` with the part that its picture shows.
+/// The options of `network` with the part that its picture shows. A number of links wants a part.
 pub(crate) fn extent_options<'a>(alloc: Global) -> Result<Vec<Arg<'a>>, AllocError> {
     let isd = Arg::new(alloc, "isd")
         .long("isd")
         .value_name("ISD")
         .value_parser(ValueParser::Signed(1, i64::from(u16::MAX)))
-        .help("Shows this ISD alone");
+        .help("Shows this ISD, and in gray the ASes beside it");
     let around = Arg::new(alloc, "around")
         .long("around")
         .value_name("IA")
-        .help("Shows what is near this AS");
+        .help("Shows this AS and what is near it, and in gray the ASes beside that");
     let core = Arg::new(alloc, "core")
         .long("core")
         .action(ArgAction::SetTrue)
-        .help("Shows the core ASes alone");
+        .help("Shows the core ASes, and in gray the ASes beside them");
     let hops = Arg::new(alloc, "hops")
         .long("hops")
         .value_name("N")
         .value_parser(ValueParser::Signed(0, i64::from(u8::MAX)))
-        .help("Shows also what is at most N links from there: 1 with --around, otherwise 0");
+        .help("Shows also what is at most N links from there: 1 with --around, otherwise 0")
+        .requires_arg("centre")?;
     Ok(vec![in alloc; isd, around, core, hops]?)
 }
 

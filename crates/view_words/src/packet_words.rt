@@ -1,6 +1,7 @@
 //! The words of `wrap` and `capture`: what whole packets say besides their path and payload.
 
 use crate::words::{place_option, range_option};
+use clap::parser::ValueSource;
 use clap::{Arg, ArgMatches, Command};
 use commands::{WordsFault, with_example};
 use scion_packet::{HostAddress, PacketInfo};
@@ -19,7 +20,7 @@ static WRAP_HELP: &str = with_example!(
 Standard input has the lines of 'scionet run'. The packet, as it is after the last of them, is \
 printed as it is on the wire, in hexadecimal: common header, address header, path header, payload. \
 The hosts and the next header are those of the options, whichever way the packet goes; the traffic \
-class is 0, and the flow 1. 'no 130 NoPacket' is printed if there is no such packet.
+class is 0, and the flow 1. That there is no such packet is a fault, 'no 130 NoPacket'.
 
 Example: a packet from an AS to its parent
   printf '%s\\n' \\
@@ -57,32 +58,34 @@ fn host_option<'a>(alloc: Global, name: &'a str, help: &'a str) -> Arg<'a> {
 }
 
 /// The options with what packets say besides.
-fn add_info_options<'a>(alloc: Global, command: Command<'a>) -> Result<Command<'a>, AllocError> {
+pub(crate) fn info_options<'a>(alloc: Global) -> Result<Vec<Arg<'a>>, AllocError> {
     let help = "The address of the source host, of IPv4 or IPv6";
     let source = host_option(alloc, "source-host", help);
     let help = "The address of the destination host, of IPv4 or IPv6";
     let destination = host_option(alloc, "destination-host", help);
     let help = "The number of the protocol with which the payload begins";
     let next = range_option(alloc, "next-header", (0, 255), "253", help);
-    command.args(vec![in alloc; source, destination, next]?)
+    Ok(vec![in alloc; source, destination, next]?)
 }
 
 /// The command `wrap`.
 pub(crate) fn wrap_command<'a>(alloc: Global) -> Result<Command<'a>, AllocError> {
     let packet = place_option(alloc, "packet", "The number of a packet, from 0").required(true);
-    let command = Command::new(alloc, "wrap")
+    let options = info_options(alloc)?;
+    Command::new(alloc, "wrap")
         .about("Prints a packet of that network as it is on the wire")
         .after_long_help(WRAP_HELP)
-        .args(vec![in alloc; packet]?)?;
-    add_info_options(alloc, command)
+        .arg(packet)?
+        .args(options)
 }
 
 /// The command `capture`.
 pub(crate) fn capture_command<'a>(alloc: Global) -> Result<Command<'a>, AllocError> {
-    let command = Command::new(alloc, "capture")
+    let options = info_options(alloc)?;
+    Command::new(alloc, "capture")
         .about("Writes the packets of a run as a capture for Wireshark")
-        .after_long_help(CAPTURE_HELP);
-    add_info_options(alloc, command)
+        .after_long_help(CAPTURE_HELP)
+        .args(options)
 }
 
 /// The fault of a text that is no address.
@@ -109,13 +112,33 @@ fn host_in(
     }
 }
 
+/// The names of the options with what packets say besides.
+static INFO_OPTIONS: [&str; 3] = ["source-host", "destination-host", "next-header"];
+
+/// The fault of the first of these options that the words have, if they have one: it says something
+/// of no packet but a whole one of a run.
+pub(crate) fn unwanted_info(
+    alloc: Global,
+    matches: &ArgMatches<'_>,
+) -> Result<Option<WordsFault>, AllocError> {
+    for name in &INFO_OPTIONS {
+        if let Some(ValueSource::CommandLine) = matches.value_source(name) {
+            let said = format!(in alloc;
+                "scionet_view: --{name}: wanted with --packet and --whole alone\n"
+            )?;
+            return Ok(Some(WordsFault::Usage(said)));
+        }
+    }
+    Ok(None)
+}
+
 /// The number of the next header, if it can be read.
 fn next_header_in(matches: &ArgMatches<'_>) -> Option<u8> {
     let next = number(matches.get_str("next-header")?, 0, 255)?;
     Some(next as u8)
 }
 
-/// What packets say besides, as the matches of `wrap` or `capture` have it; `None` if a number
+/// What packets say besides, as the matches of a command with these options have it; `None` if a number
 /// can't be read. The fault tells of the first address that is none.
 pub(crate) fn info_in(
     alloc: Global,

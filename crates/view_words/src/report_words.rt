@@ -23,17 +23,18 @@ A link is written by its two ends, as 'IA#IF~IA#IF'. Without a path the line end
 If there are as many paths as the limit, there may be more: N is then followed by '+', and the line \
 ends with 'survives unknown needs unknown through unknown'.
 
-The last lines are 'link LINK pairs N', for at most 10 links: those that most pairs need. Where no \
-segment is stored, one line says so.
+Behind them stand 'link LINK pairs N', for at most 10 links: those that most pairs need; and \
+'cut LINK' for each link that is cut. Where no segment is stored, one line says so, and nothing else \
+is printed.
 
 With --json each line is a JSON object. That of a pair has the members 'from', 'to', 'paths', 'more' \
 (whether there may be more paths), 'hops', 'until', 'survives' (3 is at least 3), 'needs' and \
 'through'; what is not known, or if there is no path, is null. Each link has its ends 'a' and 'b' \
-with 'ia' and 'if'. The last objects have 'link' and 'pairs'. tools/compare_reports.py compares two \
-such reports.
+with 'ia' and 'if'. The last objects have 'link' and 'pairs', or 'cut'. tools/compare_reports.py \
+compares two such reports.
 
-'no 14 UnknownAs' is printed if the topology has no AS of a given address, and 'no 85 SameAs' if \
-both addresses are the same. The last entry of an access list has no predicate.
+That the topology has no AS of a given address is a fault, 'no 14 UnknownAs', and so is one address \
+that is given twice, 'no 85 SameAs'. The last entry of an access list has no predicate.
 
 Example: the ASes that lose all their paths to 1-ff00:0:110 if the link at its interface 1 is cut
   scionet_view report --to 1-ff00:0:110 < LINES |

@@ -30,6 +30,8 @@ pub enum View {
     /// `packet --packet`: a packet of the network after the lines on standard input, at the router
     /// that has it.
     PacketOfRun(u32),
+    /// `packet --packet --whole`: the same packet as a whole one that says this besides.
+    WholePacketOfRun(PacketInfo, u32),
     /// `wrap`: a packet of the network after the lines on standard input, as a whole packet that
     /// says this besides.
     Wrap(PacketInfo, u32),

@@ -1,7 +1,7 @@
 //! The words of the command line.
 
 use crate::extent_words::{centre_group, extent_in, extent_options};
-use crate::packet_words::{capture_command, info_in, wrap_command};
+use crate::packet_words::{capture_command, info_in, info_options, unwanted_info, wrap_command};
 use crate::report_words::{report_command, report_in};
 use crate::turn_words::bad_turn;
 use crate::view::{Subject, View};
@@ -22,10 +22,12 @@ to the first that fails; and the last line is the one that 'scionet step' prints
 With --whole the packet is as it is on the wire, with the common header and the address header of \
 SCION, and so it is printed after the turn.
 
-With --packet, and nothing else, standard input has the lines of 'scionet run'. Of the packet, as \
-it is after the last of them, a line says where it is, and another one which hops it has passed; \
-then come its fields, and, if a router has it, the checks of that router at the second of the run \
-and the line of its turn. 'no 130 NoPacket' is printed if there is no such packet.
+With --packet, and no words of a turn, standard input has the lines of 'scionet run'. Of the \
+packet, as it is after the last of them, a line says where it is, and another one which hops it has \
+passed; then come its fields, and, if a router has it, the checks of that router at the second of \
+the run and the line of its turn. With --whole too it is the packet that 'wrap' prints, with the \
+hosts and the next header of the options. That there is no such packet is a fault, \
+'no 130 NoPacket'.
 
 Example: at second 100, a packet of a host leaves 1-ff00:0:111 over interface 2, to a parent
   printf 0001ff00000001100001ff0000000111000020000000b39600000064003f00020000\
@@ -43,8 +45,8 @@ this packet has passed are red, and so is the router at which it is or which ref
 With --isd, --around or --core the picture shows this part alone, with --hops N also what is at most \
 N links from there. An AS at the other end of a link that leaves the part is gray.
 
-'no 14 UnknownAs' is printed if no AS of the topology is named, 'no 130 NoPacket' or \
-'no 133 NoAnswer' if there is no such packet or path.
+That no AS of the topology is named is a fault, 'no 14 UnknownAs', and so is that there is no such \
+packet or path, 'no 130 NoPacket' or 'no 133 NoAnswer'.
 
 Example: a network of one AS
   printf '%s\\n' \\
@@ -57,14 +59,14 @@ static PATH_HELP: &str = with_example!(
 Standard input has the lines of 'scionet run'. Of the packet, as it is after the last of them, \
 each piece of its path is on a line, 'piece N up|core|down from IA to IA'; then its kind, a letter \
 for each piece, as UCD; its walk, hop by hop, each as 'IA#IN,OUT'; the last second at which all of \
-its hops are live; and its fields as 'packet' prints them. 'no 130 NoPacket' is printed if there \
-is no such packet.
+its hops are live; and its fields as 'packet' prints them. That there is no such packet is a fault, \
+'no 130 NoPacket'.
 
 With --answer the same is printed of a path of this answer, with the fields of a packet without \
 payload. Before them is a line that says whether a packet may be sent on it now: 'send: ok', with \
 each link of the path that is down, where the packet would be refused; or \
 'send: no' with the number and the name of the refusal, the rule that is broken, and the hop that \
-breaks it. 'no 133 NoAnswer' is printed if there is no such path.
+breaks it. That there is no such path is a fault, 'no 133 NoAnswer'.
 
 Example: a packet from an AS to its parent
   printf '%s\\n' \\
@@ -84,7 +86,8 @@ Standard input has a topology, a JSON text of one or more lines. What is printed
 'scionet run': the topology on one line, the second, and the events by which each core AS begins \
 beacons, and each AS ends and passes on the first that reach it. They go down over child links, \
 and from core AS to core AS over core links; shorter ones come first, and then those with smaller \
-interfaces. So each AS below a core AS gets segments from it, and so does each other core AS.
+interfaces. So each AS below a core AS gets segments from it, and so does each other core AS. \
+Where no core AS has a link, nothing is begun, and a line on standard error says so.
 
 Example: the segments of a network of one AS, of which there are none
   printf '%s\\n' \\
@@ -106,18 +109,31 @@ which prints
   line 1: topology no 11 BadField: ases[0].key: found \"613\", wanted an even number of \
 hexadecimal digits for 1 to 64 bytes";
 
-/// The command `packet`. Its option `--packet` stands alone, without the turn of a router.
+/// The command `packet`: with the turn of a router, or with `--packet`.
 fn packet_command<'a>(alloc: Global) -> Result<Command<'a>, AllocError> {
-    let command = Command::new(alloc, "packet")
-        .about("Shows a packet field by field, and what a router checks of it")
-        .after_long_help(PACKET_HELP);
     let whole = Arg::new(alloc, "whole")
         .long("whole")
         .action(ArgAction::SetTrue)
         .help("The packet is a whole one, with its common header and its address header");
-    let help = "Instead of all others: the number of a packet of the lines of a run";
-    let of_run = place_option(alloc, "packet", help).exclusive(true);
-    with_turn(alloc, command)?.arg(whole)?.arg(of_run)
+    let help = "Instead of the words of a turn: the number of a packet of the lines of a run";
+    let turn = [
+        "ia",
+        "router",
+        "key",
+        "previous",
+        "now",
+        "from",
+        "interface",
+    ];
+    let of_run = place_option(alloc, "packet", help).conflicts_with_all(&turn)?;
+    let options = info_options(alloc)?;
+    let command = Command::new(alloc, "packet")
+        .about("Shows a packet field by field, and what a router checks of it")
+        .after_long_help(PACKET_HELP);
+    with_turn(alloc, command)?
+        .arg(whole)?
+        .arg(of_run)?
+        .args(options)
 }
 
 /// The option with the number of something that the lines have made.
@@ -241,13 +257,14 @@ fn program<'a>(alloc: Global) -> Result<Command<'a>, AllocError> {
         .no_binary_name(true)
         .version(VERSION)
         .about("Shows what a SCION network does")
+        .arg_required_else_help(true)
         .subcommands(commands)
 }
 
 /// The fault of words that `clap` accepts and that are no command.
 fn usage(alloc: Global) -> Result<WordsFault, AllocError> {
-    let text = String::from_str(alloc, "scionet_view: usage\n")?;
-    Ok(WordsFault::Usage(text))
+    let text = "scionet_view: no view is named: 'scionet_view --help' lists them\n";
+    Ok(WordsFault::Usage(String::from_str(alloc, text)?))
 }
 
 /// The number in the option of this name, if it is given and can be read.
@@ -280,18 +297,41 @@ fn beacons(matches: &ArgMatches<'_>) -> Option<View> {
     }))
 }
 
-/// The view of the matches of `packet`. The fault tells which word gives no turn.
-fn packet(alloc: Global, matches: &ArgMatches<'_>) -> Result<View, WordsFault> {
-    if let Some(number) = number_in(matches, "packet") {
-        return Ok(View::PacketOfRun(number));
+/// The view of a packet of a run as a whole one, if its numbers can be read.
+fn whole_packet_of_run(
+    alloc: Global,
+    matches: &ArgMatches<'_>,
+    number: u32,
+) -> Result<Option<View>, WordsFault> {
+    match info_in(alloc, matches)? {
+        Some(info) => Ok(Some(View::WholePacketOfRun(info, number))),
+        None => Ok(None),
+    }
+}
+
+/// The view of the matches of `packet`, if its numbers can be read. The fault tells which word
+/// gives no turn.
+fn packet(alloc: Global, matches: &ArgMatches<'_>) -> Result<Option<View>, WordsFault> {
+    let number = number_in(matches, "packet");
+    let is_whole = matches.get_flag("whole");
+    if let Some(number) = number
+        && is_whole
+    {
+        return whole_packet_of_run(alloc, matches, number);
+    }
+    if let Some(fault) = unwanted_info(alloc, matches)? {
+        return Err(fault);
+    }
+    if let Some(number) = number {
+        return Ok(Some(View::PacketOfRun(number)));
     }
     let Some(command) = turn(alloc, matches)? else {
         return Err(bad_turn(alloc, matches)?);
     };
-    if matches.get_flag("whole") {
-        return Ok(View::WholePacket(command));
+    if is_whole {
+        return Ok(Some(View::WholePacket(command)));
     }
-    Ok(View::Packet(command))
+    Ok(Some(View::Packet(command)))
 }
 
 /// The view of the matches of `wrap`, if their numbers can be read.
@@ -332,15 +372,15 @@ fn view_in(alloc: Global, matches: &ArgMatches<'_>) -> Result<Option<View>, Word
     if name == "capture" {
         return Ok(info_in(alloc, given)?.map(View::Capture));
     }
-    Ok(Some(packet(alloc, given)?))
+    packet(alloc, given)
 }
 
 /// The view of the words after the program's name.
 ///
 /// [`WordsFault::Usage`] with the text of `clap`, if it refuses the words or they ask for help. The
-/// same fault with the text `scionet_view: usage`, if a number can't be read; with a refusal's
+/// same fault with a text that no view is named, if a number can't be read; with a refusal's
 /// number, name and sentence, if an address or a policy is refused; and with what was
-/// found and wanted, if a word of a turn can't be read, or a host of `wrap` or `capture` is no
+/// found and wanted, if a word of a turn can't be read, or a host of a whole packet is no
 /// address.
 /// [`WordsFault::Memory`] if memory runs out.
 pub fn read_view<'a>(alloc: Global, words: &'a [&'a str]) -> Result<View, WordsFault> {

@@ -1,3 +1,4 @@
 pub mod Paths
 mod Wrapping
 mod TextShown
+mod Picture

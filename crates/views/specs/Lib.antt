@@ -1,5 +1,7 @@
 pub mod Explained
+pub mod Fault
 pub mod Reached
+pub mod Remark
 pub mod Network
 pub mod Path
 pub mod Report

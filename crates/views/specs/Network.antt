@@ -1,7 +1,6 @@
 -- The output of `scionet_view network`: the picture of the network after some lines.
-use Rattle.std.specs.Prelude.{ℕ, codes, if◌then◌else◌, List, [], ◌++◌, Option, Some, None, option_map, slice_get, Result, Ok, Err}
+use Rattle.std.specs.Prelude.{ℕ, if◌then◌else◌, List, [], Option, Some, None, option_map, slice_get, Result, Ok, Err}
 use Rattle.std.specs.Option.{ok_or}
-use Rattle.std.specs.Fmt.{decimal}
 use Rattle.scion_topology.specs.declared.fault.TopologyFault.TheVariants.{UnknownAs}
 use Rattle.scion_topology.specs.Network.{Network}
 use Rattle.forwarding.specs.declared.location.PacketLocation.{PacketLocation}
@@ -11,7 +10,6 @@ use Rattle.path_verifier.specs.Walk.{walk_of}
 use Rattle.combinator.specs.Candidate.{PathValue}
 use Rattle.network_core.specs.declared.fault.EventFault.{EventFault}
 use Rattle.network_core.specs.declared.fault.EventFault.TheVariants.{NoPacket, NoAnswer, Topology}
-use Rattle.network_core.specs.Fault.{code_and_name}
 use Rattle.network_core.specs.Value.{NetValue}
 use Rattle.network_view.specs.declared.marks.Router.{Router}
 use Rattle.network_view.specs.declared.extent.Extent.{Extent}
@@ -20,12 +18,6 @@ use Rattle.network_view.specs.Extent.{has_central}
 use Rattle.refusal.specs.Optional.{◌>>=◌}
 use Rattle.view_words.specs.declared.view.Subject.{Subject}
 use Rattle.view_words.specs.declared.view.Subject.TheVariants.{Packet, Answer}
-
--- the line with which a run answers an event that is refused for this reason
-abbrev pub fault_line : EventFault → List ℕ
-fault_line fault =
-    codes "no " ++ (decimal (code_and_name fault).0 ++ (codes " " ++ ((code_and_name fault).1
-    ++ codes "\n")))
 
 -- the path of this number in the answer of this number
 abbrev pub path_at : (net : NetValue) (answer path : ℕ) → Option PathValue
@@ -49,14 +41,14 @@ marks_in net (Some (Packet number)) = ok_or (option_map
 marks_in net (Some (Answer answer path)) =
     ok_or (option_map (λ path. (walk_of path.pieces, None)) (path_at net answer path)) NoAnswer
 
--- the picture of a part of a network with these marks, or the line of a refusal
+-- the picture of a part of a network with these marks, if there are some
 abbrev pub picture_with : Network → Extent → Result (List WalkHop × Option Router) EventFault
-    → List ℕ
-picture_with network extent (Ok marks) = dot_of network extent marks.0 marks.1
-picture_with network extent (Err fault) = fault_line fault
+    → Result (List ℕ) EventFault
+picture_with network extent (Ok marks) = Ok (dot_of network extent marks.0 marks.1)
+picture_with network extent (Err fault) = Err fault
 
 -- the picture of a part of a network, with the packet or the path marked that is named, if one is;
 -- refused if the network has no AS around which the part is
-abbrev pub picture_of : NetValue → Extent → Option Subject → List ℕ
+abbrev pub picture_of : NetValue → Extent → Option Subject → Result (List ℕ) EventFault
 picture_of net extent subject = if has_central extent.centre net.network.ases
-    then picture_with net.network extent (marks_in net subject) else fault_line (Topology UnknownAs)
+    then picture_with net.network extent (marks_in net subject) else Err (Topology UnknownAs)

@@ -1,5 +1,5 @@
 -- The output of `scionet_view path` about a packet.
-use Rattle.std.specs.Prelude.{◌≡◌, ℕ, ◌/◌, codes, List, [], ◌++◌, length, Option, Some, None, slice_get}
+use Rattle.std.specs.Prelude.{◌≡◌, ℕ, ◌/◌, codes, List, [], ◌++◌, length, Option, Some, None, slice_get, Result, Ok, Err}
 use Rattle.std.specs.Fmt.{decimal}
 use Rattle.isd_as.specs.Address.{canonical}
 use Rattle.path_verifier.specs.declared.kind.PieceKind.{PieceKind}
@@ -7,11 +7,11 @@ use Rattle.path_verifier.specs.declared.kind.PieceKind.TheVariants.{Up, Core, Do
 use Rattle.path_verifier.specs.Piece.{PieceValue, kind_of, begins_in, ends_in}
 use Rattle.path_verifier.specs.Walk.{walk_of}
 use Rattle.path_verifier.specs.Accepted.{IsExpiry}
+use Rattle.network_core.specs.declared.fault.EventFault.{EventFault}
 use Rattle.network_core.specs.declared.fault.EventFault.TheVariants.{NoPacket}
 use Rattle.network_core.specs.Value.{PacketValue}
 use Rattle.event_lines.specs.Text.{hops_text, kinds_text}
 use Rattle.packet_view.specs.Fields.{each_below, fields_text}
-use Rattle.views.specs.Network.{fault_line}
 
 -- the name of a kind of piece
 unfoldable pub piece_kind_name : PieceKind → List ℕ
@@ -50,8 +50,8 @@ path_lines pieces last =
 abbrev pub TellsPath : List PieceValue → List ℕ → Type 0
 TellsPath pieces text = (half : ℕ) × (IsExpiry pieces half × (text ≡ path_lines pieces (half / 2)))
 
--- the text is about this packet: what is said of its path, and its fields; or there is none
-abbrev pub TellsPacket : Option PacketValue → List ℕ → Type 0
-TellsPacket None text = text ≡ fault_line NoPacket
-TellsPacket (Some packet) text = (lines : List ℕ) × (TellsPath packet.sent.way.pieces lines
-    × (text ≡ lines ++ fields_text packet.packet.bytes))
+-- this is said of a packet: what is said of its path, and its fields; nothing if there is none
+abbrev pub TellsPacket : Option PacketValue → Result (List ℕ) EventFault → Type 0
+TellsPacket None said = said ≡ Err NoPacket
+TellsPacket (Some packet) said = (lines : List ℕ) × (TellsPath packet.sent.way.pieces lines
+    × (said ≡ Ok (lines ++ fields_text packet.packet.bytes)))

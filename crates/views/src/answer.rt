@@ -3,8 +3,8 @@
 ghost use Rattle.std.specs.Prelude.{◌≡◌, ◌||◌};
 ghost use Rattle.event_lines.specs.Run.{is_read_fault};
 
-use crate::network::{fault_line, path_at};
-use crate::network_after::network_after;
+use crate::network::path_at;
+use crate::network_after::{Said, network_after};
 use crate::path::verified_text;
 use combinator::Path;
 use event_lines::RunFault;
@@ -19,7 +19,7 @@ use refusal::NumberedFault;
 use scion_topology::Topology;
 use std::alloc::{AllocError, Global};
 use std::fmt::Write;
-use streams::Source;
+use streams::{Sink, Source};
 
 /// The first hop of a piece, in order of travel, that is not live at this second.
 fn expired_hop<'s>(piece: &Piece<'s>, now: u32) -> Option<&'s Entry> {
@@ -146,9 +146,9 @@ fn path_report(
     topology: &Topology,
     path: &Path,
     now: u32,
-) -> Result<String, AllocError> {
+) -> Result<Said, AllocError> {
     let [first, .., last] = path.walk() else {
-        return fault_line(alloc, EventFault::NoAnswer);
+        return Ok(Err(EventFault::NoAnswer));
     };
     let pieces = lend_all(path.pieces());
     let policy = Policy::any();
@@ -159,35 +159,36 @@ fn path_report(
         header: path.header(),
         policy: &policy,
     };
-    report_text(alloc, topology, &way, now)
+    Ok(Ok(report_text(alloc, topology, &way, now)?))
 }
 
-/// What is said of a path in the network, or the line that there is no such path.
-fn answer_text(alloc: Global, net: &Net, path: Option<&Path>) -> Result<String, AllocError> {
+/// What is said of a path in the network, if there is one.
+fn answer_text(alloc: Global, net: &Net, path: Option<&Path>) -> Result<Said, AllocError> {
     match path {
         Some(path) => path_report(alloc, net.topology(), path, net.now()),
-        None => fault_line(alloc, EventFault::NoAnswer),
+        None => Ok(Err(EventFault::NoAnswer)),
     }
 }
 
 /// What is said of the path of this number in the answer of this number, in the network after the
 /// lines of a source; whether a packet may be sent on it then, and if not, the rule that is broken,
-/// or else its links that are down; and the fields of such a packet, without payload. The line `no
-/// 133 NoAnswer` if there is no such path.
+/// or else its links that are down; and the fields of such a packet, without payload.
+/// [`EventFault::NoAnswer`] if there is no such path.
 ///
-/// The faults are those of [`listen`](event_lines::listen) without [`RunFault::Write`];
-/// [`RunFault::Memory`] also if memory runs out for the text.
-pub(crate) fn answer_path<S: Source>(
+/// The faults are those of [`network_after`]; [`RunFault::Memory`] also if memory runs out for the
+/// text.
+pub(crate) fn answer_path<S: Source, R: Sink>(
     alloc: Global,
     source: &mut S,
+    replies: &mut R,
     answer: u32,
     path: u32,
-) -> Result<String, RunFault>
+) -> Result<Said, RunFault>
     ensures { S.failed source.new ≡ (S.failed source.old || is_read_fault result) }
 {
-    let text = {
-        let net = network_after(alloc, source)?;
+    let said = {
+        let net = network_after(alloc, source, replies)?;
         answer_text(alloc, &net, path_at(&net, answer, path))
     };
-    Ok(text?)
+    Ok(said?)
 }

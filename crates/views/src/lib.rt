@@ -10,13 +10,17 @@
 mod answer;
 mod beacons;
 mod explain;
+mod fault;
 mod network;
 mod network_after;
 mod packet;
 mod path;
+mod remark;
 mod report;
 mod run_packet;
 mod showing;
 mod wrapped;
 
+pub use fault::ViewFault;
+pub use remark::Remark;
 pub use showing::show;

@@ -6,17 +6,16 @@ ghost use Rattle.std.specs.String.{string_bytes};
 ghost use Rattle.path_verifier.specs.Piece.{HasRange};
 ghost use Rattle.network_core.specs.Value.{asked_at};
 ghost use Rattle.event_lines.specs.Run.{is_read_fault};
-ghost use Rattle.views.specs.Reached.{Shows};
+ghost use Rattle.views.specs.Reached.{Shows, said_of};
 ghost use Rattle.views.specs.Path.{TellsPacket, TellsPath, piece_kind_name, path_lines, piece_line_at, numbered_piece, piece_lines};
 
-use crate::network::fault_line;
-use crate::network_after::network_after;
+use crate::network_after::{Said, network_after};
 use event_lines::{RunFault, hops_text, kinds_text};
 use network_core::{EventFault, Packet, Sent};
 use packet_view::fields_text;
 use path_verifier::{Piece, PieceKind, VerifiedPath, lend_all, verify};
 use std::alloc::{AllocError, Global};
-use streams::Source;
+use streams::{Sink, Source};
 
 /// The name of a kind of piece.
 fn piece_kind_name(kind: PieceKind) -> &'static str
@@ -124,39 +123,39 @@ fn path_of(sent: &Sent) -> VerifiedPath<'_, '_, Global>
     }
 }
 
-/// What is said of the path of a packet and then its fields, or the line that there is no such
-/// packet.
-fn packet_text(alloc: Global, packet: Option<&Packet>) -> Result<String, AllocError>
-    ensures { IfOk result (λ text. TellsPacket (option_map (λ p. p.now) packet.entry)
-        (string_bytes text)) }
+/// What is said of the path of a packet and then its fields, if there is one.
+fn packet_text(alloc: Global, packet: Option<&Packet>) -> Result<Said, AllocError>
+    ensures { IfOk result (λ said. TellsPacket (option_map (λ p. p.now) packet.entry)
+        (said_of said)) }
 {
     let Some(packet) = packet else {
-        return fault_line(alloc, EventFault::NoPacket);
+        return Ok(Err(EventFault::NoPacket));
     };
     let path = path_of(packet.sent());
     let mut text = verified_text(alloc, &path)?;
     text.push_str(fields_text(alloc, packet.bytes())?.as_str())?;
-    Ok(text)
+    Ok(Ok(text))
 }
 
 /// What is said of the path of the packet of this number, in the network after the lines of a
-/// source, and then its fields as they are then; the line `no 130 NoPacket` if there is no such
+/// source, and then its fields as they are then; [`EventFault::NoPacket`] if there is no such
 /// packet.
 ///
-/// The faults are those of [`listen`](event_lines::listen) without [`RunFault::Write`];
-/// [`RunFault::Memory`] also if memory runs out for the text.
-pub(crate) fn packet_path<S: Source>(
+/// The faults are those of [`network_after`]; [`RunFault::Memory`] also if memory runs out for the
+/// text.
+pub(crate) fn packet_path<S: Source, R: Sink>(
     alloc: Global,
     source: &mut S,
+    replies: &mut R,
     number: u32,
-) -> Result<String, RunFault>
+) -> Result<Said, RunFault>
     ensures shows { Shows (λ net. TellsPacket (slice_get net.packets number)) result
-        (S.left source.old) (S.left source.new) }
+        (S.left source.old) (S.left source.new) (R.held replies.old) (R.held replies.new) }
     ensures flag { S.failed source.new ≡ (S.failed source.old || is_read_fault result) }
 {
-    let text = {
-        let net = network_after(alloc, source)?;
+    let said = {
+        let net = network_after(alloc, source, replies)?;
         packet_text(alloc, net.packet(number as usize))
     };
-    Ok(text?)
+    Ok(said?)
 }

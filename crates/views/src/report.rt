@@ -1,14 +1,13 @@
 //! The report of the network after some lines.
 
-ghost use Rattle.std.specs.Prelude.{◌≡◌, ◌||◌};
+ghost use Rattle.std.specs.Prelude.{◌≡◌, ◌||◌, false};
 ghost use Rattle.event_lines.specs.Run.{is_read_fault, is_write_fault};
-ghost use Rattle.views.specs.Network.{fault_line};
 ghost use Rattle.path_report.specs.Report.{BeginsReport, IsReport};
 ghost use Rattle.views.specs.Reached.{Begins, Writes};
-ghost use Rattle.views.specs.Report.{BeginsPaths, BeginsTelling, ShowsReport, TellsPaths, TellsReport, are_one, bare_line, has_named, is_bare, report_fault, run_fault, wanted_by};
+ghost use Rattle.views.specs.Report.{BeginsPaths, Reports, ShowsReport, TellsPaths, are_one, bare_line, has_named, is_bare, report_fault, report_remark, run_fault, wanted_by};
 
-use crate::network::fault_line;
 use crate::network_after::network_after;
+use crate::remark::Remark;
 use combinator::CombineFault;
 use event_lines::RunFault;
 use isd_as::IsdAs;
@@ -86,16 +85,6 @@ fn write_wanted<K: Sink>(
     path_report(alloc, net, &wanted, sink).map_err(run_fault)
 }
 
-/// Writes the line that says why there is no report.
-fn write_fault<K: Sink>(alloc: Global, fault: EventFault, sink: &mut K) -> Result<(), RunFault>
-    ensures written { Writes (λ text. text ≡ fault_line fault) (Begins (fault_line fault)) result
-        (K.held sink.old) (K.held sink.new) }
-    ensures flag { K.failed sink.new ≡ (K.failed sink.old || is_write_fault result) }
-{
-    let line = fault_line(alloc, fault)?;
-    write_all(sink, line.as_bytes()).map_err(|_| RunFault::Write)
-}
-
 /// Whether a report would say of each pair that it has no path, since the network stores no segment;
 /// for JSON that is said all the same.
 fn is_bare(net: &Net, words: &ReportWords) -> bool
@@ -138,40 +127,61 @@ fn write_paths<K: Sink>(
     write_wanted(alloc, net, words, sink)
 }
 
-/// Writes the report of a network, or the line that says why there is none.
+/// The remark on a report for JSON.
+fn report_remark(net: &Net, words: &ReportWords) -> Option<Remark>
+    ensures { result ≡ report_remark (wanted_by words.now) net.now }
+{
+    if words.json && net.store().len() == 0 {
+        Some(Remark::NoSegment)
+    } else {
+        None
+    }
+}
+
+/// The remark on a report that was written, or the reason for which there is none.
+type Reported = Result<Option<Remark>, EventFault>;
+
+/// Writes the report of a network, if there is one.
 fn write_report<K: Sink>(
     alloc: Global,
     net: &Net,
     words: &ReportWords,
     sink: &mut K,
-) -> Result<(), RunFault>
+) -> Result<Reported, RunFault>
     ensures written { let wanted = wanted_by words.now in
-        Writes (TellsReport wanted net.now) (BeginsTelling wanted net.now) result
+        Reports (report_fault net.now.network wanted.from wanted.to) wanted net.now result
         (K.held sink.old) (K.held sink.new) }
     ensures flag { K.failed sink.new ≡ (K.failed sink.old || is_write_fault result) }
+    ensures read { is_read_fault result ≡ false }
 {
     match report_fault(net.topology(), words.from, words.to) {
-        Some(fault) => write_fault(alloc, fault, sink),
-        None => write_paths(alloc, net, words, sink),
+        Some(fault) => Ok(Err(fault)),
+        None => {
+            write_paths(alloc, net, words, sink)?;
+            Ok(Ok(report_remark(net, words)))
+        }
     }
 }
 
-/// Writes the report of the network after the lines of a source, line by line; or the line
-/// `no 14 UnknownAs`, if an AS is named that the topology does not have, or `no 85 SameAs`, if one
-/// is named twice, or, but for JSON, a line that no segment is stored, if there is none.
+/// Writes the report of the network after the lines of a source, line by line, or, but for JSON, a
+/// line that no segment is stored, if there is none; then the remark says so. There is no report if
+/// an AS is named that the topology does not have, [`TopologyFault::UnknownAs`], or one is named
+/// twice, [`CombineFault::SameAs`].
 ///
-/// The faults are those of [`listen`](event_lines::listen), before anything is written; and then
+/// The faults are those of [`network_after`], before anything is written; and then
 /// [`RunFault::Memory`], if memory runs out for the report, and [`RunFault::Write`].
-pub(crate) fn network_report<S: Source, K: Sink>(
+pub(crate) fn network_report<S: Source, R: Sink, K: Sink>(
     alloc: Global,
     source: &mut S,
+    replies: &mut R,
     words: &ReportWords,
     sink: &mut K,
-) -> Result<(), RunFault>
+) -> Result<Reported, RunFault>
     ensures shows { ShowsReport (wanted_by words.now) result
-        (S.left source.old) (S.left source.new) (K.held sink.old) (K.held sink.new) }
+        (S.left source.old) (S.left source.new) (R.held replies.old) (R.held replies.new)
+        (K.held sink.old) (K.held sink.new) }
     ensures flag { S.failed source.new ≡ (S.failed source.old || is_read_fault result) }
 {
-    let net = network_after(alloc, source)?;
+    let net = network_after(alloc, source, replies)?;
     write_report(alloc, &net, words, sink)
 }
