@@ -340,10 +340,11 @@ its file. The types of refusals are in [refusals.md](refusals.md).
 """
 VIEWS_HEAD = """## How the code's values are seen
 
-Clauses of calls speak of values of the code. These are the views by which `run` of `network_core`,
-whose clause is `Ran`, and the calls on its network and its packets are read; `stored_way` is the
-`Way` of what is stored. `items` are those of a vector; `topology`, `store` and `transit` are fields
-of the code, each with a view of its own: a network, the list of registered segments, a packet.
+Clauses of calls speak of values of the code. These are the views of a network (`Net`), of a packet
+(`Packet`), what was sent in it (`Sent`) and where it is (`PacketInFlight`), and of a topology, by
+which `run` of `network_core`, whose clause is `Ran`, and the calls on them are read. `items` are
+those of a vector; the fields `topology`, `store` and `transit` have views of their own: a network,
+the registered segments, a packet in flight. `stored_way` is the `Way` of what is stored.
 """
 REST = "## Part 1: the rest of the theorem\n"
 CLAUSES = """## Part 2: how the theorem is a clause of calls

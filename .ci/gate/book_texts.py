@@ -42,7 +42,8 @@ PARTS
 
 Above each definition stand its name and links to what it cites. A definition says what it takes and
 gives, and then what it is, case by case, of which the first that fits counts (`_` fits anything);
-lines that begin with `--` are comments. `abbrev` and `unfoldable` tell the prover when to look
+lines that begin with `--` are comments. In them, the flag C, SegID, ConsIngress and ConsEgress are
+the drafts' names for `construction`, `seg_id`, `cons_ingress` and `cons_egress`. `abbrev` and `unfoldable` tell the prover when to look
 inside, and say nothing to a reader; `pub` lets other files cite it. A `record` holds if each of its
 fields does; a field that is a value says that there is one. `data` lists the forms of a value. A
 field that holds for each `k` can be applied: `forwarded k after quiet` is the `IsForwarded` for
@@ -140,7 +141,8 @@ LIBRARY = (
 FIRST_HOUR: tuple[tuple[str, tuple[tuple[str, str], ...]], ...] = (
     (
         "AS, ISD, beacon and segment are explained in [the tutorial](tutorial.md). A link joins two"
-        " interfaces, one of each AS, and each is owned by one router of its AS. A segment begins in"
+        " interfaces, one of each AS, and is up unless it is cut. Each interface is owned by one"
+        " router of its AS. A segment begins in"
         " a core AS and goes on to other core ASes, or from parents to children; this is its"
         " construction direction. A hop field is an"
         " AS's entry in a path, with its authenticator; an info field says how a segment is"
