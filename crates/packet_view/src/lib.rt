@@ -10,6 +10,7 @@
 
 mod check;
 mod checks;
+mod failed;
 mod fields;
 mod host;
 pub mod laws;
@@ -22,6 +23,7 @@ mod whole;
 mod whole_checks;
 mod whole_turn;
 
+pub use failed::failed_check;
 pub use fields::fields_text;
 pub use lines::packet_lines;
 pub use turned::turn_lines;
