@@ -1,10 +1,12 @@
 """Runs `scionet_view explain` over faulty inputs, and over the networks of the examples and cases.
 
 `cases/explain/faults.jsonl` has the faulty inputs, and the beginnings of the lines that have to be
-printed of each. Of the examples nothing may be said. Of each network of `cases/*.jsonl` exactly the
-lines are explained that `scionet run` refuses, each with its reply. The last line has the numbers
-of faults and of lines that were compared, and of those that were wrong; the status is 1 where one
-was, or where nothing was compared.
+printed of each, behind `..` also their ends; and of some the columns. Of the examples nothing may
+be said. Of each network of `cases/*.jsonl` exactly the lines are explained that `scionet run`
+refuses, and the turns at which a router refuses a packet, each with its reply. With `--json` the
+same is said of each as an object on a line. The status has to be 3 where something is said, and 0
+where nothing is. The last line has the numbers of faults and of lines that were compared, and of
+those that were wrong; the status is 1 where one was, or where nothing was compared.
 """
 import concurrent.futures
 import copy
@@ -20,7 +22,12 @@ from gate import TOP, children
 from gate.cases import Case
 from gate.words import reader
 
-SAID = re.compile(rb"line (\d+): (warning: |(?:topology )?no \d+ \w+: )")
+SAID = re.compile(r"line (\d+): ((?:topology )?no \d+ \w+|refused \d+ [\w ]+|warning): ")
+
+# The status where something was found.
+FOUND = 3
+
+MEMBERS = ["column", "found", "line", "member", "name", "refusal", "reply", "text", "wanted"]
 
 
 # The programs, which `rt ci` has built if no others are named.
@@ -34,10 +41,35 @@ def program(name: str) -> str:
     return str(path)
 
 
-def explained(text: bytes) -> list[bytes] | None:
-    """The lines that `explain` prints of this input; `None` if it ends with a fault."""
-    run = children.run([program("scionet_view"), "explain"], text)
-    return None if run.returncode else run.stdout.split(b"\n")[:-1]
+def printed(text: bytes, *words: str) -> list[str] | None:
+    """The lines that `explain` prints of this input; `None` if it ends with a fault, or with
+    another status than what it prints wants."""
+    run = children.run([program("scionet_view"), "explain", *words], text)
+    lines = run.stdout.decode().split("\n")[:-1]
+    return lines if run.returncode == (FOUND if lines else 0) else None
+
+
+def line_of(text: str) -> str:
+    """The line of text of a JSON object, which has to be one of a finding."""
+    it = json.loads(text)
+    if list(it) != MEMBERS or json.dumps(it, separators=(",", ":"), ensure_ascii=False) != text:
+        return f"no object of a finding: {text}"
+    refusal = [] if it["refusal"] is it["name"] is None else [str(it["refusal"]), it["name"]]
+    if refusal != (it["reply"] or "").removeprefix("topology ").split()[1:3]:
+        return f"another refusal than in the reply: {text}"
+    for name in ("found", "member", "wanted"):
+        if it[name] is not None and it[name] not in it["text"]:
+            return f"{name} is not in the text: {text}"
+    return f"line {it['line']}: {it['reply'] or 'warning'}: {it['text']}"
+
+
+def explained(text: bytes) -> list[str] | None:
+    """The lines that `explain` prints of this input, which its objects have to say too; `None` if
+    it ends with a fault."""
+    lines, objects = printed(text), printed(text, "--json")
+    if lines is None or objects is None:
+        return None
+    return lines if lines == [*map(line_of, objects)] else [*map(line_of, objects), "in JSON"]
 
 
 def changed(topology: Any, case: Case) -> Any:
@@ -69,19 +101,37 @@ def input_of(case: Case, row: list[str]) -> bytes:
     return "".join(f"{line}\n" for line in lines).encode()
 
 
+def is_said(line: str, wanted: str) -> bool:
+    """Whether a line begins as wanted, and ends so too where `..` stands between both."""
+    begin, _, end = wanted.partition("..")
+    return line.startswith(begin) and line.endswith(end)
+
+
+def columns(text: bytes) -> list[int | None]:
+    """The columns of the findings of this input."""
+    return [json.loads(it)["column"] for it in printed(text, "--json") or []]
+
+
 def fault_difference(case: Case, row: list[str]) -> str | None:
     """What is wrong with the explanation of a faulty input, or nothing."""
-    said = [line.decode() for line in explained(input_of(case, row)) or []]
-    if len(said) == len(case["said"]) and all(map(str.startswith, said, case["said"])):
-        return None
-    return f"{case['name']}: {said}, not {case['said']}"
+    said = explained(input_of(case, row)) or []
+    if len(said) != len(case["said"]) or not all(map(is_said, said, case["said"])):
+        return f"{case['name']}: {said}, not {case['said']}"
+    if "columns" in case and (found := columns(input_of(case, row))) != case["columns"]:
+        return f"{case['name']}: columns {found}, not {case['columns']}"
+    return None
+
+
+def is_refused(reply: str) -> bool:
+    """Whether a line has to be explained that has this reply; that to `show` names an AS."""
+    return reply.startswith(("no ", "topology no ")) or bool(re.match(r"refused \d+ ", reply))
 
 
 def network_difference(name: str, text: bytes) -> tuple[str | None, int]:
     """What is wrong with the explanations of a network's lines, or nothing, and how many replies
     were compared."""
     run = children.run([program("scionet"), "run"], text)
-    replies = run.stdout.split(b"\n")[:-1]
+    replies = run.stdout.decode().split("\n")[:-1]
     said = explained(text)
     if said is None:
         is_right = run.stderr not in (b"", b"scionet: topology refused\n")
@@ -89,12 +139,8 @@ def network_difference(name: str, text: bytes) -> tuple[str | None, int]:
     begun = [SAID.match(line) for line in said]
     if None in begun:
         return f"{name}: {said[begun.index(None)]!r}", len(replies)
-    found = [(int(it[1]), it[2]) for it in begun if it and it[2] != b"warning: "]
-    wanted = [
-        (number, reply + b": ")
-        for number, reply in enumerate(replies, 1)
-        if reply.startswith((b"no ", b"topology no "))
-    ]
+    found = [(int(it[1]), it[2]) for it in begun if it and it[2] != "warning"]
+    wanted = [(number, reply) for number, reply in enumerate(replies, 1) if is_refused(reply)]
     return None if found == wanted else f"{name}: {found}, not {wanted}", len(replies)
 
 

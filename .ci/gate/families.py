@@ -361,6 +361,19 @@ def blank(size: int) -> str:
     return row([""] * size)
 
 
+def all_denied(size: int) -> str:
+    """So many requests whose access list denies the middle of the one path."""
+    request = event("ask", src=address(2), dst=address(0), limit=4, acl=[f"- {address(1)}", "+"])
+    return row([request] * size)
+
+
+def behind_a_cut(size: int) -> str:
+    """So many packets that are sent behind a cut and are refused at their first turn."""
+    cut = event("cut", ia=address(2), **{"if": 1})
+    return row([cut, *(line for number in range(size)
+                       for line in (SEND, event("turn", packet=number)))])
+
+
 def json_list(size: int) -> str:
     return "[" + "0," * size + "0]\n"
 

@@ -154,19 +154,19 @@ class Subject:
 
 
 class Program(Subject):
-    """A program with some words: what it is given, what it has to write, and what it then remarks
-    on standard error."""
+    """A program with some words: what it is given, what it has to write, its status then, and what
+    it remarks on standard error."""
 
-    def __init__(self, words: list[str], given: bytes, answer: bytes,
-                 name: str = "scionet", remark: bytes = b"") -> None:
+    def __init__(self, words: list[str], given: bytes, answer: bytes, name: str = "scionet",
+                 end: tuple[int, bytes] = (0, b"")) -> None:
         self.name, self.given, self.answer = " ".join([name, *words]), given, answer
-        self.words, self.remark = [executable(name, name), *words], remark
+        self.words, self.end = [executable(name, name), *words], end
         self.told = f"{name}: out of memory\n".encode()
 
     def is_right(self, run: Run) -> bool:
-        if (run.status, run.output, run.errors) == (0, self.answer, self.remark):
+        if run.output == self.answer and (run.status, run.errors) == self.end:
             return True
-        is_told = run.status == 1 and run.errors in (self.told, self.told + self.remark)
+        is_told = run.status == 1 and run.errors in (self.told, self.told + self.end[1])
         is_whole = run.output[-1:] in (b"", b"\n")
         return run.was_refused and is_told and is_whole and self.answer.startswith(run.output)
 
@@ -190,12 +190,12 @@ class Lines(Program):
 
 
 class Explanations(Lines):
-    """`scionet_view explain`, which writes what there is to say of each line."""
+    """`scionet_view explain`, which writes what it finds in each line, and ends with 3."""
 
     def __init__(self, given: bytes) -> None:
         words = [executable("scionet_view", "scionet_view"), "explain"]
-        answer = children.output(words, given)
-        super().__init__(["explain"], given, answer, "scionet_view")
+        answer = children.run(words, given).stdout
+        super().__init__(["explain"], given, answer, "scionet_view", (3, b""))
         if not all(self.replies()[1:]):
             stop("a line has no explanation, so that none is looked for before it")
 
@@ -241,7 +241,7 @@ def programs() -> Iterator[Subject]:
     yield Lines(["run"], *case(POLICIES))
     yield Explanations(given.splitlines(True)[0] + FAULTY)
     reports = children.output([executable("scionet_view", "scionet_view"), "report"], given)
-    yield Program(["report"], given, reports, "scionet_view", remark(answer))
+    yield Program(["report"], given, reports, "scionet_view", (0, remark(answer)))
     lines, replies = given.splitlines(True), answer.splitlines(True)
     at = next(place for place, line in enumerate(lines) if b'"send"' in line)
     twice = b"".join([*lines[:at], lines[at], lines[at]])

@@ -19,19 +19,30 @@ ROW = (TOP / "examples/row.txt").read_text(encoding="utf-8").splitlines()
 REFUSED = b"topology ok\nno 140 BadLine\n"
 
 
+FINDING = (
+    '{"column":null,"found":"7","line":2,"member":"do","name":"BadLine","refusal":140,'
+    '"reply":"no 140 BadLine","text":"do: found 7, wanted a text","wanted":"a text"}'
+)
+
+
 class Explain(unittest.TestCase):
     def test_faults(self) -> None:
         for said, is_right in (
-            ([b"line 1: topology no 11 BadField: ases[0].key: found"], True),
-            ([b"line 1: topology no 12 DuplicateAs"], False),
+            (["line 1: topology no 11 BadField: ases[0].key: found"], True),
+            (["line 1: topology no 12 DuplicateAs"], False),
             ([], False),
-            ([b"line 1: topology no 11 BadField", b"line 2: warning: "], False),
+            (["line 1: topology no 11 BadField", "line 2: warning: "], False),
             (None, False),
         ):
             with mock.patch.object(explain, "explained", lambda _, said=said: said):
                 self.assertEqual(explain.fault_difference(FAULT, ROW) is None, is_right, said)
 
-    def compared(self, said: list[bytes]) -> bool:
+    def test_ends(self) -> None:
+        self.assertTrue(explain.is_said("line 1: a b c", "line 1: a.. c"))
+        self.assertFalse(explain.is_said("line 1: a b c", "line 1: a.. d"))
+        self.assertFalse(explain.is_said("line 1: a b c", "line 2: a.. c"))
+
+    def compared(self, said: list[str]) -> bool:
         """Whether it is right to say this of a network whose second line is refused."""
         done = subprocess.CompletedProcess([], 0, REFUSED, b"")
         with (
@@ -44,11 +55,33 @@ class Explain(unittest.TestCase):
         return fault is None
 
     def test_networks(self) -> None:
-        self.assertTrue(self.compared([b"line 2: no 140 BadLine: the line: found no text"]))
-        self.assertTrue(self.compared([b"line 1: warning: mtu", b"line 2: no 140 BadLine: x"]))
+        self.assertTrue(self.compared(["line 2: no 140 BadLine: the line: found no text"]))
+        self.assertTrue(self.compared(["line 1: warning: mtu", "line 2: no 140 BadLine: x"]))
         self.assertFalse(self.compared([]))
-        for line in (b"line 1: no 140 BadLine: x", b"line 2: no 41 NoInterface: x", b"x"):
+        for line in ("line 1: no 140 BadLine: x", "line 2: no 41 NoInterface: x", "x"):
             self.assertFalse(self.compared([line]), line)
+
+    def test_turns(self) -> None:
+        self.assertTrue(explain.is_refused("refused 100 LinkDown"))
+        self.assertTrue(explain.is_refused("refused 90 BadHeader 20 Short"))
+        self.assertFalse(explain.is_refused("refused 90-ff00:0:110 0 94 BadMac"))
+
+    def test_status(self) -> None:
+        for status, text, is_right in ((3, b"a\n", True), (0, b"", True), (0, b"a\n", False),
+                                       (3, b"", False), (1, b"a\n", False)):
+            done = subprocess.CompletedProcess([], status, text, b"")
+            with (
+                mock.patch.object(explain.children, "run", lambda *_, done=done: done),
+                mock.patch.object(explain, "program", str),
+            ):
+                self.assertEqual(explain.printed(b"") is not None, is_right)
+
+    def test_objects(self) -> None:
+        self.assertEqual(explain.line_of(FINDING),
+                         "line 2: no 140 BadLine: do: found 7, wanted a text")
+        for old, new in (('"refusal":140', '"refusal":141'), ('"found":"7"', '"found":"8"'),
+                         ('"column":null,', ""), (",", ", ")):
+            self.assertNotIn("line 2:", explain.line_of(FINDING.replace(old, new, 1)))
 
 
 class Theorem(unittest.TestCase):

@@ -1,5 +1,6 @@
 -- Lines that are told one after another, up to where they were read.
-use Rattle.std.proofs.Common.{arith, rules, ◌≡◌, ℕ, ◌+◌, ◌<◌, ◌≤◌, true, false, List, [], ◌∷◌, ◌++◌, length, take, ◌==◌, Option, Some, None, Result, Ok, Err, refl, sym, ap, ◌∙◌, append_assoc, append-nil, subst}
+use Rattle.std.proofs.Common.{arith, rules, ◌≡◌, ℕ, ◌+◌, ◌<◌, ◌≤◌, ◌||◌, Bool, true, false, List, [], ◌∷◌, ◌++◌, length, take, ◌==◌, Option, Some, None, Result, Ok, Err, refl, sym, ap, ◌∙◌, append_assoc, append-nil, subst}
+use Rattle.std.proofs.lemmas.Grind.{flat_map-append}
 use Rattle.std.proofs.lemmas.List.{length-append}
 use Rattle.std.specs.Io.KnownBytes.{Appends, Keeps}
 use Rattle.std.proofs.KnownBytes.{Appends-kept, Appends-nil, Appends-trans}
@@ -15,18 +16,20 @@ use Rattle.event_lines.proofs.Heard.{front_more, has_more, line_read}
 use Rattle.event_lines.proofs.Lines.{cut_of, grown, joined, none_read}
 use Rattle.event_lines.proofs.Running.{take_behind}
 use Rattle.event_lines.proofs.Telling.{told_append, told_one}
+use Rattle.line_faults.specs.declared.finding.FindingForm.{FindingForm}
+use Rattle.line_faults.specs.Finding.{FindingValue, all_written, has_any, written}
 use Rattle.line_faults.specs.Explanation.{AreTold, IsTold}
-use Rattle.line_faults.specs.inner.Telling.{Place, TellingValue, TellsBytes, TellsLine, TellsLines, TellsReply, TellsSome, closed_at}
+use Rattle.line_faults.specs.inner.Telling.{Place, Tally, TellingValue, TellsBytes, TellsLine, TellsLines, TellsReply, TellsSome, closed_at, with_told}
 
--- ---- what is said of lines behind lines
+-- ---- what is found in lines behind lines
 
-said_append : (first : ℕ) (replies others : List (List ℕ)) (text more : List ℕ)
-    → AreTold first replies text → AreTold (first + length replies) others more
-    → AreTold first (replies ++ others) (text ++ more)
-said_append first [] others text more is then =
+said_append : (first : ℕ) (replies others : List (List ℕ)) (findings more : List FindingValue)
+    → AreTold first replies findings → AreTold (first + length replies) others more
+    → AreTold first (replies ++ others) (findings ++ more)
+said_append first [] others findings more is then =
     let same : first + length {A = List ℕ} [] ≡ first = omega arith in
-    subst (λ t. AreTold first others (t ++ more)) (sym is) (subst (λ n. AreTold n others more) same then)
-said_append first (reply ∷ replies) others text more is then =
+    subst (λ fs. AreTold first others (fs ++ more)) (sym is) (subst (λ n. AreTold n others more) same then)
+said_append first (reply ∷ replies) others findings more is then =
     let (told, later, (one, (rest, whole))) = is in
     let same : first + length (reply ∷ replies) ≡ (first + 1) + length replies = omega arith in (
       told,
@@ -35,102 +38,148 @@ said_append first (reply ∷ replies) others text more is then =
         one,
         (
           said_append (first + 1) replies others later more rest (subst (λ n. AreTold n others more) same then),
-          ap (λ t. t ++ more) whole ∙ append_assoc told later more,
+          ap (λ fs. fs ++ more) whole ∙ append_assoc told later more,
         ),
       ),
     )
 
--- what is said of one line
-said_one : (number : ℕ) (reply part : List ℕ) → IsTold number reply part → AreTold number (reply ∷ []) part
-said_one number reply part told = (part, [], (told, (refl, sym (append-nil part))))
+-- what is found in one line
+said_one : (number : ℕ) (reply : List ℕ) (findings : List FindingValue) → IsTold number reply findings
+    → AreTold number (reply ∷ []) findings
+said_one number reply findings told = (findings, [], (told, (refl, sym (append-nil findings))))
+
+-- ---- what was told
+
+any_none : (was : Bool) → was ≡ (was || false)
+any_none true = refl
+any_none false = refl
+
+any_append : (was : Bool) (one other : List FindingValue)
+    → ((was || has_any one) || has_any other) ≡ (was || has_any (one ++ other))
+any_append true one other = refl
+any_append false [] other = refl
+any_append false (f ∷ one) other = refl
+
+told_none : (tally : Tally) → tally ≡ with_told tally 0 []
+told_none tally =
+    let number : tally.number + 0 ≡ tally.number = omega arith in
+    rw (number, sym (any_none tally.found)) refl
+
+told_twice : (tally : Tally) (n m : ℕ) (one other : List FindingValue)
+    → with_told (with_told tally n one) m other ≡ with_told tally (n + m) (one ++ other)
+told_twice tally n m one other =
+    let number : (tally.number + n) + m ≡ tally.number + (n + m) = omega arith in
+    rw (number, any_append tally.found one other) refl
 
 -- ---- lines
 
 pub lines_none : (at : Place) (held : Option (List ℕ)) → TellsLines [] at at held held
 lines_none at held = record {
   replies = [];
-  part = [];
+  findings = [];
   replied = (refl, refl);
   told = refl;
   kept = Appends-nil held;
-  count = omega arith;
+  count = told_none at.tally;
 }
+
+-- the findings of some lines behind those of others, in one form
+joined_texts : (form : FindingForm) (one other : List FindingValue)
+    → all_written form one ++ all_written form other ≡ all_written form (one ++ other)
+joined_texts form one other = sym (flat_map-append (λ finding. written form finding) one other)
 
 pub lines_append : (first then : List (List ℕ)) (old middle new : Place) (held mid holds : Option (List ℕ))
     → TellsLines first old middle held mid → TellsLines then middle new mid holds
     → TellsLines (first ++ then) old new held holds
 lines_append first then old middle new held mid holds one other =
-    let same : middle.number + 1 ≡ (old.number + 1) + length one.replies = omega (arith, one.count) in
+    let form = old.tally.form in
+    let number : middle.tally.number ≡ old.tally.number + length one.replies = ap (λ (t : Tally). t.number) one.count in
+    let same : middle.tally.number + 1 ≡ (old.tally.number + 1) + length one.replies = omega (arith, number) in
+    let alike : middle.tally.form ≡ form = ap (λ (t : Tally). t.form) one.count in
+    let more : Appends mid holds (all_written form other.findings) =
+    subst (λ f. Appends mid holds (all_written f other.findings)) alike other.kept in
     record {
       replies = one.replies ++ other.replies;
-      part = one.part ++ other.part;
+      findings = one.findings ++ other.findings;
       replied = told_append All old.stage middle.stage new.stage first then one.replies other.replies one.replied other.replied;
-      told = said_append (old.number + 1) one.replies other.replies one.part other.part one.told
-          (subst (λ n. AreTold n other.replies other.part) same other.told);
-      kept = Appends-trans held mid holds one.part other.part one.kept other.kept;
-      count = omega (arith, one.count, other.count, length-append one.replies other.replies);
+      told = said_append (old.tally.number + 1) one.replies other.replies one.findings other.findings one.told
+          (subst (λ n. AreTold n other.replies other.findings) same other.told);
+      kept = subst (Appends held holds) (joined_texts form one.findings other.findings)
+          (Appends-trans held mid holds (all_written form one.findings) (all_written form other.findings) one.kept more);
+      count = other.count ∙ ap (λ (t : Tally). with_told t (length other.replies) other.findings) one.count
+          ∙ told_twice old.tally (length one.replies) (length other.replies) one.findings other.findings
+          ∙ ap (λ n. with_told old.tally n (one.findings ++ other.findings)) (sym (length-append one.replies other.replies));
     }
 
 pub lines_some : (first then : List (List ℕ)) (old middle : Place) (held mid holds : Option (List ℕ))
     → TellsLines first old middle held mid → TellsSome then middle mid holds
     → TellsSome (first ++ then) old held holds
 lines_some first then old middle held mid holds one other =
-    let same : middle.number + 1 ≡ (old.number + 1) + length one.replies = omega (arith, one.count) in
+    let form = old.tally.form in
+    let number : middle.tally.number ≡ old.tally.number + length one.replies = ap (λ (t : Tally). t.number) one.count in
+    let same : middle.tally.number + 1 ≡ (old.tally.number + 1) + length one.replies = omega (arith, number) in
+    let alike : middle.tally.form ≡ form = ap (λ (t : Tally). t.form) one.count in
+    let before = all_written form one.findings in
+    let behind = all_written form other.findings in
+    let more : Appends mid holds (take other.most behind) =
+    subst (λ f. Appends mid holds (take other.most (all_written f other.findings))) alike other.kept in
     record {
       replies = one.replies ++ other.replies;
       stage = other.stage;
-      part = one.part ++ other.part;
-      most = length one.part + other.most;
+      findings = one.findings ++ other.findings;
+      most = length before + other.most;
       replied = told_append All old.stage middle.stage other.stage first then one.replies other.replies one.replied other.replied;
-      told = said_append (old.number + 1) one.replies other.replies one.part other.part one.told
-          (subst (λ n. AreTold n other.replies other.part) same other.told);
-      kept = subst (Appends held holds) (take_behind one.part other.part other.most)
-          (Appends-trans held mid holds one.part (take other.most other.part) one.kept other.kept);
+      told = said_append (old.tally.number + 1) one.replies other.replies one.findings other.findings one.told
+          (subst (λ n. AreTold n other.replies other.findings) same other.told);
+      kept = subst (λ t. Appends held holds (take (length before + other.most) t))
+          (joined_texts form one.findings other.findings)
+          (subst (Appends held holds) (take_behind before behind other.most)
+          (Appends-trans held mid holds before (take other.most behind) one.kept more));
     }
 
 pub lines_kept : (lines : List (List ℕ)) (old new : Place) (held mid holds : Option (List ℕ))
     → TellsLines lines old new held mid → Keeps mid holds → TellsLines lines old new held holds
 lines_kept lines old new held mid holds told kept = record {
   replies = told.replies;
-  part = told.part;
+  findings = told.findings;
   replied = told.replied;
   told = told.told;
-  kept = Appends-kept held mid holds told.part told.kept kept;
+  kept = Appends-kept held mid holds (all_written old.tally.form told.findings) told.kept kept;
   count = told.count;
 }
 
 -- ---- one line
 
 pub line_told : (line reply : List ℕ) (old new : Place) (held holds : Option (List ℕ))
-    → RepliesTo All old.stage line reply new.stage → TellsReply (Ok tt) reply old.number new.number held holds
+    → RepliesTo All old.stage line reply new.stage → TellsReply (Ok tt) reply old.tally new.tally held holds
     → TellsLine (Ok tt) line old new held holds
 line_told line reply old new held holds says tells =
-    let (part, (told, (kept, count))) = tells in record {
+    let (findings, (told, (kept, count))) = tells in record {
       replies = reply ∷ [];
-      part = part;
+      findings = findings;
       replied = told_one All old.stage new.stage line reply says;
-      told = said_one (old.number + 1) reply part told;
+      told = said_one (old.tally.number + 1) reply findings told;
       kept = kept;
       count = count;
     }
 
 -- a line was answered, and what there is to say of it was not added
-pub line_untold : (fault : RunFault) (line reply : List ℕ) (old : Place) (stage : Stage) (number : ℕ) (new : Place)
+pub line_untold : (fault : RunFault) (line reply : List ℕ) (old : Place) (stage : Stage) (tally : Tally) (new : Place)
     (held holds : Option (List ℕ))
-    → RepliesTo All old.stage line reply stage → TellsReply (Err fault) reply old.number number held holds
+    → RepliesTo All old.stage line reply stage → TellsReply (Err fault) reply old.tally tally held holds
     → TellsLine (Err fault) line old new held holds
-line_untold faults.Memory line reply old stage number new held holds says tells = tells
-line_untold faults.Write line reply old stage number new held holds says tells = absurd tells
-line_untold faults.Topology line reply old stage number new held holds says tells = absurd tells
-line_untold faults.Read line reply old stage number new held holds says tells = absurd tells
-line_untold faults.InputTooLong line reply old stage number new held holds says tells = absurd tells
+line_untold faults.Memory line reply old stage tally new held holds says tells = tells
+line_untold faults.Write line reply old stage tally new held holds says tells = absurd tells
+line_untold faults.Topology line reply old stage tally new held holds says tells = absurd tells
+line_untold faults.Read line reply old stage tally new held holds says tells = absurd tells
+line_untold faults.InputTooLong line reply old stage tally new held holds says tells = absurd tells
 
 pub line_after : (result : Result (Unit {0}) RunFault) (line reply : List ℕ) (old new : Place) (held holds : Option (List ℕ))
-    → RepliesTo All old.stage line reply new.stage → TellsReply result reply old.number new.number held holds
+    → RepliesTo All old.stage line reply new.stage → TellsReply result reply old.tally new.tally held holds
     → TellsLine result line old new held holds
 line_after (Ok done) line reply old new held holds says tells = line_told line reply old new held holds says tells
 line_after (Err fault) line reply old new held holds says tells =
-    line_untold fault line reply old new.stage new.number new held holds says tells
+    line_untold fault line reply old new.stage new.tally new held holds says tells
 
 -- the reply by which a topology is refused
 pub refused_says : (result : Result (Unit {0}) RunFault) (old new : Stage) (line reply : List ℕ)
@@ -172,11 +221,12 @@ same_held (Some bytes) = refl
 -- the lines told are no more than the bytes
 pub line_counted : (left line behind : List ℕ) (old new : Place) (held holds : Option (List ℕ)) (most : ℕ)
     → IsLineCut left line behind → (other : List ℕ) → TellsLines (other ∷ []) old new held holds
-    → old.number + length left ≤ most → new.number + length behind ≤ most
+    → old.tally.number + length left ≤ most → new.tally.number + length behind ≤ most
 line_counted left line behind old new held holds most cut other tells few =
     let one = replies_count old.stage new.stage (other ∷ []) tells.replies tells.replied in
+    let number : new.tally.number ≡ old.tally.number + length tells.replies = ap (λ (t : Tally). t.number) tells.count in
     let whole = ap (λ l. length l) cut.whole ∙ length-append line (line_end ∷ behind) in
-    omega (arith, one, whole, tells.count, few)
+    omega (arith, one, whole, number, few)
 
 -- of the bytes a front was told, and these are left
 pub record Front (bytes left : List ℕ) (old now : TellingValue) (held holds : Option (List ℕ)) : Type 0 where

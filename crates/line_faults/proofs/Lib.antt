@@ -1,4 +1,5 @@
-pub mod Said
+pub mod Objects
+pub mod Told
 pub mod Front
 pub mod Writing
 pub mod Running

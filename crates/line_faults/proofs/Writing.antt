@@ -15,7 +15,7 @@ lines_written : (lines : List (List ℕ)) (old new : Place) (text : List ℕ) (h
     → TellsLines lines old new (Some []) (Some text) → Appends held holds text → TellsLines lines old new held holds
 lines_written lines old new text held holds told wrote = record {
   replies = told.replies;
-  part = told.part;
+  findings = told.findings;
   replied = told.replied;
   told = told.told;
   kept = subst (λ t. Appends held holds t) told.kept wrote;
@@ -29,7 +29,7 @@ lines_part : (lines : List (List ℕ)) (old new : Place) (text : List ℕ) (held
 lines_part lines old new text held holds told wrote = record {
   replies = told.replies;
   stage = new.stage;
-  part = told.part;
+  findings = told.findings;
   most = wrote.0;
   replied = told.replied;
   told = told.told;

@@ -1,48 +1,85 @@
--- What is said of the lines of a run, by their replies.
-use Rattle.std.specs.Prelude.{◌≡◌, ℕ, ◌+◌, ◌||◌, codes, Bool, true, false, List, [], ◌∷◌, ◌++◌, nat_eq}
+-- What is found in the lines of a run, by their replies.
+use Rattle.std.specs.Prelude.{◌≡◌, ℕ, ◌+◌, ◌^◌, ◌<◌, ◌||◌, ◌&&◌, ◌==◌, if◌then◌else◌, not, codes, Bool, true, false, List, [], ◌∷◌, ◌++◌, length, All, nat_eq, Some, None}
 use Rattle.std.specs.Fmt.{decimal}
-use Rattle.std.specs.List.{flat_map, list_any, starts_with}
+use Rattle.std.specs.List.{after_first, before_first, list_any, starts_with}
 use Rattle.event_lines.specs.Run.{has_line_end}
+use Rattle.line_faults.specs.Finding.{FindingValue}
 
--- whether a reply says that its line is refused
+-- a hyphen, as in an address
+abbrev pub hyphen : ℕ
+hyphen = 45
+
+-- whether a reply says that a router refused a packet at its turn; a reply to `show` names the
+-- router's AS too
+abbrev pub is_refused_turn : (reply : List ℕ) → Bool
+is_refused_turn reply =
+    starts_with nat_eq reply (codes "refused ") && not (list_any (λ b. b == hyphen) reply)
+
+-- whether a reply says that its line is refused, or the packet whose turn it is
 abbrev pub is_refusal : (reply : List ℕ) → Bool
 is_refusal reply =
-    starts_with nat_eq reply (codes "no ") || starts_with nat_eq reply (codes "topology no ")
+    starts_with nat_eq reply (codes "no ")
+    || (starts_with nat_eq reply (codes "topology no ") || is_refused_turn reply)
 
--- a line that says something of the line of this number
-abbrev pub line_about : (number : ℕ) (what : List ℕ) → List ℕ
-line_about number what =
-    codes "line " ++ (decimal number ++ (codes ": " ++ (what ++ codes "\n")))
+-- ---- the refusal in a reply
 
--- the text is a line that says why the line of this number has this reply
-pub record IsReason (number : ℕ) (reply text : List ℕ) : Type 0 where
-  pub why : List ℕ
-  pub one : has_line_end why ≡ false
-  pub says : text ≡ line_about number (reply ++ (codes ": " ++ why))
+abbrev pub is_blank : ℕ → Bool
+is_blank byte = byte == 32
 
--- the text has a line for each warning about the line of this number
-pub record AreWarnings (number : ℕ) (text : List ℕ) : Type 0 where
-  pub warnings : List (List ℕ)
-  pub each : list_any has_line_end warnings ≡ false
-  pub says : text
-      ≡ flat_map (λ warning. line_about number (codes "warning: " ++ warning)) warnings
+-- its number and what stands behind it: all behind the first word, or behind two if the first is
+-- `topology`
+abbrev pub refusal_text : (reply : List ℕ) → List ℕ
+refusal_text reply =
+    if starts_with nat_eq reply (codes "topology ")
+    then after_first is_blank (after_first is_blank reply)
+    else after_first is_blank reply
 
--- the text says why the line of this number is refused, if it is; else it is empty
-abbrev pub IsReasonIf : (refused : Bool) (number : ℕ) (reply text : List ℕ) → Type 0
-IsReasonIf true number reply text = IsReason number reply text
-IsReasonIf false number reply text = text ≡ []
+-- its number
+abbrev pub code_text : (reply : List ℕ) → List ℕ
+code_text reply = before_first is_blank (refusal_text reply)
 
--- the text is about the line of this number with this reply: why it is refused, if it is, and then
--- warnings
-pub record IsTold (number : ℕ) (reply text : List ℕ) : Type 0 where
-  pub reason : List ℕ
-  pub warnings : List ℕ
-  pub refused : IsReasonIf (is_refusal reply) number reply reason
-  pub strange : AreWarnings number warnings
-  pub says : text ≡ reason ++ warnings
+-- its name
+abbrev pub name_text : (reply : List ℕ) → List ℕ
+name_text reply = before_first is_blank (after_first is_blank (refusal_text reply))
 
--- the text is about lines with these replies, one after another, of which the first has this number
-abbrev pub AreTold : (first : ℕ) (replies : List (List ℕ)) (text : List ℕ) → Type 0
-AreTold first [] text = text ≡ []
-AreTold first (reply ∷ replies) text = (told later : List ℕ)
-    × (IsTold first reply told × (AreTold (first + 1) replies later × (text ≡ told ++ later)))
+-- ---- findings
+
+-- the finding says why the line of this number has this reply, with the number and the name of the
+-- refusal in the reply
+pub record IsReason (number : ℕ) (reply : List ℕ) (finding : FindingValue) : Type 0 where
+  pub line : finding.line ≡ number
+  pub replied : finding.reply ≡ Some reply
+  pub refusal : (code : ℕ) → code < 2 ^ 64 → code_text reply ≡ decimal code
+      → finding.refusal ≡ Some code
+  pub name : finding.name ≡ Some (name_text reply)
+  pub one : has_line_end finding.says ≡ false
+
+-- the finding is a warning about the line of this number
+pub record IsWarning (number : ℕ) (finding : FindingValue) : Type 0 where
+  pub line : finding.line ≡ number
+  pub replied : finding.reply ≡ None
+  pub one : has_line_end finding.says ≡ false
+
+-- the findings say why the line of this number is refused, if it is; else there are none
+abbrev pub AreReasons : (refused : Bool) (number : ℕ) (reply : List ℕ)
+    (findings : List FindingValue) → Type 0
+AreReasons true number reply findings =
+    (finding : FindingValue) × (IsReason number reply finding × (findings ≡ finding ∷ []))
+AreReasons false number reply findings = findings ≡ []
+
+-- the findings are about the line of this number with this reply: why it is refused, if it is, and
+-- then warnings
+pub record IsTold (number : ℕ) (reply : List ℕ) (findings : List FindingValue) : Type 0 where
+  pub reasons : List FindingValue
+  pub warnings : List FindingValue
+  pub refused : AreReasons (is_refusal reply) number reply reasons
+  pub strange : All (IsWarning number) warnings
+  pub are : findings ≡ reasons ++ warnings
+
+-- the findings are about lines with these replies, one after another, of which the first has this
+-- number
+abbrev pub AreTold : (first : ℕ) (replies : List (List ℕ)) (findings : List FindingValue) → Type 0
+AreTold first [] findings = findings ≡ []
+AreTold first (reply ∷ replies) findings = (told later : List FindingValue)
+    × (IsTold first reply told
+    × (AreTold (first + 1) replies later × (findings ≡ told ++ later)))

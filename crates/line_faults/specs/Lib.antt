@@ -1,3 +1,4 @@
+pub mod Finding
 pub mod Explanation
 pub mod Explained
 pub mod inner

@@ -1,38 +1,27 @@
-//! What is told of a line.
+//! What is found in a line.
 
-ghost use Rattle.std.specs.Prelude.{◌≡◌, false, nat_eq, OnOk};
-ghost use Rattle.std.specs.List.{starts_with};
+ghost use Rattle.std.specs.Prelude.{◌≡◌, ◌==◌, ◌++◌, ◌||◌, false, flat_map, not, OnOk, IfOk};
 ghost use Rattle.std.specs.String.{string_bytes};
 ghost use Rattle.event_lines.specs.Run.{has_line_end};
-ghost use Rattle.line_faults.specs.Explanation.{AreWarnings, IsReason, IsReasonIf, IsTold, is_refusal};
-ghost use Rattle.line_faults.specs.inner.Adding.{Adds, IsWarning};
+ghost use Rattle.line_faults.specs.Explanation.{AreReasons, IsReason, IsTold, is_refusal};
+ghost use Rattle.line_faults.specs.Finding.{written};
+ghost use Rattle.line_faults.specs.inner.Adding.{Adds, AddsOne, AreFound, SaysAs, one_line, warning_of};
 
+use crate::finding::{Finding, FindingForm};
 use crate::reason::{Line, reason_of, warnings_of};
 use crate::refused::Context;
+use crate::reply::{code_of, is_refusal, name_of};
+use crate::said::Said;
 use serde_json::Value;
 use std::alloc::{AllocError, Global};
-use std::fmt::Write;
 
 /// The end of a line.
 const LINE_END: u8 = b'\n';
 
-/// Whether a reply begins with these words.
-fn begins_with(reply: &str, words: &str) -> bool
-    ensures { result ≡ starts_with nat_eq reply.now words.now }
-{
-    reply.starts_with(words)
-}
-
-/// Whether a reply says that its line is refused.
-fn is_refusal(reply: &str) -> bool
-    ensures { result ≡ is_refusal reply.now }
-{
-    begins_with(reply, "no ") || begins_with(reply, "topology no ")
-}
-
-/// A text on one line: the text itself, or another one if it has more lines.
+/// A text on one line: the text itself, or dots if it has more lines.
 fn on_one_line(text: &str) -> &str
-    ensures { has_line_end result.now ≡ false }
+    ensures same { result.now ≡ one_line text.now }
+    ensures one { has_line_end result.now ≡ false }
 {
     if text.as_bytes().contains(&LINE_END) {
         "..."
@@ -41,67 +30,131 @@ fn on_one_line(text: &str) -> &str
     }
 }
 
-/// Adds the line that says why a line is refused.
-fn push_reason(text: &mut String, line: &Line<'_>, why: &str) -> Result<(), AllocError>
-    ensures { OnOk result (Adds (IsReason line.now.number line.now.reply.now)
-        (string_bytes text.old) (string_bytes text.new)) }
+/// The finding that says why a line is refused.
+fn finding_of<'a>(line: &Line<'a>, why: &'a Said) -> Finding<'a>
+    ensures is { IsReason line.now.number line.now.reply.now result }
+    ensures says { SaysAs why.now result }
 {
-    let why = on_one_line(why);
-    writeln!(text, "line {}: {}: {why}", line.number, line.reply)
+    Finding {
+        line: line.number,
+        reply: Some(line.reply),
+        refusal: code_of(line.reply),
+        name: Some(name_of(line.reply)),
+        says: on_one_line(why.text.as_str()),
+        column: why.column,
+        member: why.member(),
+        found: why.found(),
+        wanted: why.wanted(),
+    }
 }
 
-/// Adds a line with a warning about a line.
-fn push_warning(text: &mut String, number: usize, warning: &str) -> Result<(), AllocError>
-    ensures { OnOk result (Adds (IsWarning number)
+/// Adds the finding that says why a line is refused.
+fn push_reason(
+    alloc: Global,
+    form: FindingForm,
+    text: &mut String,
+    line: &Line<'_>,
+    why: &Said,
+) -> Result<(), AllocError>
+    ensures { OnOk result (AddsOne form (IsReason line.now.number line.now.reply.now)
         (string_bytes text.old) (string_bytes text.new)) }
 {
-    let warning = on_one_line(warning);
-    writeln!(text, "line {number}: warning: {warning}")
+    finding_of(line, why).push_to(alloc, form, text)
 }
 
-/// Adds a line for each warning about a line.
-fn push_warnings(text: &mut String, number: usize, warnings: &[String]) -> Result<(), AllocError>
-    ensures { OnOk result (Adds (AreWarnings number)
-        (string_bytes text.old) (string_bytes text.new)) }
+/// The warning with which this is said of the line of a number.
+fn warning_of(number: usize, warning: &Said) -> Finding<'_>
+    ensures { result ≡ warning_of number warning.now }
+{
+    Finding {
+        line: number,
+        reply: None,
+        refusal: None,
+        name: None,
+        says: on_one_line(warning.text.as_str()),
+        column: warning.column,
+        member: warning.member(),
+        found: warning.found(),
+        wanted: warning.wanted(),
+    }
+}
+
+/// Adds a warning about a line.
+fn push_warning(
+    alloc: Global,
+    form: FindingForm,
+    text: &mut String,
+    number: usize,
+    warning: &Said,
+) -> Result<(), AllocError>
+    ensures { OnOk result (string_bytes text.new
+        ≡ string_bytes text.old ++ written form (warning_of number warning.now)) }
+{
+    warning_of(number, warning).push_to(alloc, form, text)
+}
+
+/// Adds each warning about a line.
+fn push_warnings(
+    alloc: Global,
+    form: FindingForm,
+    text: &mut String,
+    number: usize,
+    warnings: &[Said],
+) -> Result<(), AllocError>
+    ensures { OnOk result (string_bytes text.new ≡ string_bytes text.old
+        ++ flat_map (λ warning. written form (warning_of number warning)) warnings.now) }
 {
     for warning in warnings {
-        push_warning(text, number, warning)?;
+        push_warning(alloc, form, text, number, warning)?;
     }
     Ok(())
 }
 
-/// Adds the line that says why a line is refused, if it is.
+/// Adds the finding that says why a line is refused, if it is.
+#[tactic(auto, using(crate::proofs::Told::no_reason, crate::proofs::Told::one_reason))]
 fn push_refusal(
     alloc: Global,
+    form: FindingForm,
     text: &mut String,
     context: &Context<'_>,
     line: &Line<'_>,
     value: Option<&Value>,
 ) -> Result<(), AllocError>
-    ensures { OnOk result (Adds
-        (IsReasonIf (is_refusal line.now.reply.now) line.now.number line.now.reply.now)
+    ensures { OnOk result (Adds form
+        (AreReasons (is_refusal line.now.reply.now) line.now.number line.now.reply.now)
         (string_bytes text.old) (string_bytes text.new)) }
 {
     if !is_refusal(line.reply) {
         return Ok(());
     }
     let why = reason_of(alloc, context, line, value)?;
-    push_reason(text, line, &why)
+    push_reason(alloc, form, text, line, &why)
 }
 
-/// Adds why a line is refused, if it is, and the warnings about it.
-#[tactic(auto, using(crate::proofs::Said::told))]
+/// Whether there is a finding: a refusal, or one of this many warnings.
+fn is_any(refused: bool, warnings: usize) -> bool
+    ensures { result ≡ (refused || not (warnings == 0)) }
+{
+    refused || warnings != 0
+}
+
+/// Adds why a line is refused, if it is, and the warnings about it. Returns whether there is any of
+/// these.
+#[tactic(auto, using(crate::proofs::Told::told))]
 pub(crate) fn push_comments(
     alloc: Global,
+    form: FindingForm,
     text: &mut String,
     context: &Context<'_>,
     line: &Line<'_>,
     value: Option<&Value>,
-) -> Result<(), AllocError>
-    ensures { OnOk result (Adds (IsTold line.now.number line.now.reply.now)
+) -> Result<bool, AllocError>
+    ensures { IfOk result (λ found. Adds form
+        (AreFound found (IsTold line.now.number line.now.reply.now))
         (string_bytes text.old) (string_bytes text.new)) }
 {
-    push_refusal(alloc, text, context, line, value)?;
+    push_refusal(alloc, form, text, context, line, value)?;
     let warnings = warnings_of(alloc, context, line, value)?;
-    push_warnings(text, line.number, &warnings)
+    push_warnings(alloc, form, text, line.number, &warnings)?;
+    Ok(is_any(is_refusal(line.reply), warnings.len()))
 }

@@ -20,6 +20,8 @@ pub(crate) enum Form {
     Truth,
     /// A whole number from the first to the second, both included.
     Whole(u64, u64),
+    /// A number of 32 bits that is a limit of paths.
+    Limit,
     /// A key: 1 to 64 bytes in hexadecimal.
     Key,
     /// Bytes in hexadecimal.
@@ -38,6 +40,7 @@ impl Form {
             Form::Object => value.is_object(),
             Form::Truth => value.is_boolean(),
             Form::Whole(low, high) => is_whole(value, low, high),
+            Form::Limit => is_whole(value, 0, 4_294_967_295),
             Form::Address
             | Form::AsAddress
             | Form::Key
@@ -56,7 +59,7 @@ impl Form {
             Form::Bytes => is_hexadecimal(text),
             Form::LinkKind => text == "core" || text == "child",
             Form::Text => true,
-            Form::List | Form::Object | Form::Truth | Form::Whole(..) => false,
+            Form::List | Form::Object | Form::Truth | Form::Whole(..) | Form::Limit => false,
         }
     }
 }
@@ -96,6 +99,7 @@ impl fmt::Display for Form {
             Form::Object => "an object",
             Form::Truth => "true or false",
             Form::Whole(low, high) => return write!(f, "a whole number from {low} to {high}"),
+            Form::Limit => "a whole number from 1 to 64",
             Form::Key => "an even number of hexadecimal digits for 1 to 64 bytes",
             Form::Bytes => "an even number of hexadecimal digits",
             Form::LinkKind => "\"core\" or \"child\"",

@@ -1,46 +1,73 @@
 //! What stands at a place of a line, and what is wanted there.
 
 use crate::form::Form;
+use crate::located::{Inward, number_from, start_of};
 use crate::member::{Member, first_misfit};
+use crate::said::Said;
 use serde_json::Value;
-use std::alloc::{AllocError, Allocator};
+use std::alloc::{AllocError, Allocator, Global};
 use std::fmt;
 use std::fmt::{Display, Write};
 
 /// The most characters of a value that are shown.
 const MAX_SHOWN: usize = 60;
 
+/// The mark with which some editors begin a file.
+const BYTE_ORDER_MARK: char = '\u{FEFF}';
+
 /// Where an object stands in a line: it is the line itself, an item of a list of the line, or an
 /// object in one of these.
 #[derive(Clone, Copy)]
 pub(crate) struct Place<'a> {
-    item: Option<(&'a str, usize)>,
-    part: &'a str,
+    line: &'a str,
+    item: Option<(&'static str, usize)>,
+    part: &'static str,
 }
 
 impl<'a> Place<'a> {
-    /// The line itself.
-    pub(crate) fn line() -> Place<'static> {
+    /// The line of this text itself.
+    pub(crate) fn line(text: &'a str) -> Place<'a> {
         Place {
+            line: text,
             item: None,
             part: "",
         }
     }
 
+    /// The text of the line.
+    pub(crate) fn text(self) -> &'a str {
+        self.line
+    }
+
     /// The item of this number in a list of the line.
-    pub(crate) fn item(list: &'a str, number: usize) -> Place<'a> {
+    pub(crate) fn item(self, list: &'static str, number: usize) -> Place<'a> {
         Place {
+            line: self.line,
             item: Some((list, number)),
             part: "",
         }
     }
 
     /// The object of this name in this one.
-    pub(crate) fn part(self, name: &'a str) -> Place<'a> {
+    pub(crate) fn part(self, name: &'static str) -> Place<'a> {
         Place {
+            line: self.line,
             item: self.item,
             part: name,
         }
+    }
+
+    /// The steps that lead to it from the line.
+    fn steps(&self, alloc: Global) -> Result<Vec<Inward<'a>>, AllocError> {
+        let mut steps = Vec::new(alloc);
+        if let Some((list, number)) = self.item {
+            steps.push(Inward::Member(list))?;
+            steps.push(Inward::Item(number))?;
+        }
+        if !self.part.is_empty() {
+            steps.push(Inward::Member(self.part))?;
+        }
+        Ok(steps)
     }
 }
 
@@ -54,78 +81,174 @@ impl<'a> fmt::Display for Place<'a> {
     }
 }
 
-/// Adds the place of a member: that of its object, and the member's name.
-pub(crate) fn push_place(why: &mut String, place: Place<'_>, name: &str) -> Result<(), AllocError> {
-    if place.item.is_some() {
-        write!(why, "{place}.")?;
+/// A member of the object at a place, with the first characters of its name.
+#[derive(Clone, Copy)]
+struct MemberAt<'a>(Place<'a>, &'a str);
+
+impl<'a> fmt::Display for MemberAt<'a> {
+    fn fmt<W: fmt::Write>(&self, f: &mut fmt::Formatter<W>) -> fmt::Result {
+        let MemberAt(place, name) = self;
+        if place.item.is_some() {
+            write!(f, "{place}.")?;
+        }
+        write!(f, "{}", Front(name))
     }
-    why.push_str(name)
 }
 
-/// Adds the first characters of a text, with a `?` for each control character.
-pub(crate) fn push_front(why: &mut String, text: &str) -> Result<(), AllocError> {
-    let mut left = MAX_SHOWN;
-    for letter in text.chars() {
-        if left == 0 {
-            return why.push_str("..");
-        }
-        why.push(if letter.is_control() { '?' } else { letter })?;
-        left -= 1;
-    }
+/// Adds the member of this name of the object at a place.
+pub(crate) fn push_name(why: &mut Said, place: Place<'_>, name: &str) -> Result<(), AllocError> {
+    why.push_member(&MemberAt(place, name))
+}
+
+/// Adds the member of this name of the object at a place, and notes at which column its value is.
+pub(crate) fn push_place(why: &mut Said, place: Place<'_>, name: &str) -> Result<(), AllocError> {
+    let mut steps = place.steps(*why.text.allocator())?;
+    steps.push(Inward::Member(name))?;
+    note_column(why, place, &steps)?;
+    push_name(why, place, name)
+}
+
+/// Notes at which column the value is to which these steps lead.
+fn note_column(why: &mut Said, place: Place<'_>, steps: &[Inward<'_>]) -> Result<(), AllocError> {
+    let start = start_of(*why.text.allocator(), place.line, steps)?;
+    why.column = start.map(|start| start.saturating_add(1));
     Ok(())
 }
 
-/// Adds a value as it stands in the line, or what it is if it is long.
-pub(crate) fn push_value(why: &mut String, value: &Value) -> Result<(), AllocError> {
-    match value {
-        Value::Array(_) => why.push_str("a list"),
-        Value::Object(_) => why.push_str("an object"),
-        _ => {
-            let mut text = String::new(*why.allocator());
-            write!(text, "{value}")?;
-            push_front(why, &text)
-        }
+/// An entry of the access list at a place.
+#[derive(Clone, Copy)]
+struct EntryAt<'a>(Place<'a>, usize);
+
+impl<'a> fmt::Display for EntryAt<'a> {
+    fn fmt<W: fmt::Write>(&self, f: &mut fmt::Formatter<W>) -> fmt::Result {
+        let EntryAt(place, number) = self;
+        let list = MemberAt(*place, "acl");
+        write!(f, "{list}[{number}]")
     }
 }
 
-/// Adds what stands at a place: a value, or nothing.
-pub(crate) fn push_found(why: &mut String, value: Option<&Value>) -> Result<(), AllocError> {
-    match value {
-        Some(value) => {
-            why.push_str(": found ")?;
-            push_value(why, value)
+/// Adds the entry of this number of the access list at a place, and notes at which column it is.
+pub(crate) fn push_entry(
+    why: &mut Said,
+    place: Place<'_>,
+    number: usize,
+) -> Result<(), AllocError> {
+    let mut steps = place.steps(*why.text.allocator())?;
+    steps.push(Inward::Member("acl"))?;
+    steps.push(Inward::Item(number))?;
+    note_column(why, place, &steps)?;
+    why.push_member(&EntryAt(place, number))
+}
+
+/// A text in quotes.
+#[derive(Clone, Copy)]
+pub(crate) struct Quoted<'a>(pub(crate) &'a str);
+
+impl<'a> fmt::Display for Quoted<'a> {
+    fn fmt<W: fmt::Write>(&self, f: &mut fmt::Formatter<W>) -> fmt::Result {
+        write!(f, "\"{}\"", self.0)
+    }
+}
+
+/// The first characters of a text, with the control characters and those that can't be seen by
+/// their numbers.
+#[derive(Clone, Copy)]
+pub(crate) struct Front<'a>(pub(crate) &'a str);
+
+/// Whether a character can't be told from a blank, or can't be seen at all.
+fn is_hidden(letter: char) -> bool {
+    letter.is_control() || (letter.is_whitespace() && letter != ' ') || letter == BYTE_ORDER_MARK
+}
+
+impl<'a> fmt::Display for Front<'a> {
+    fn fmt<W: fmt::Write>(&self, f: &mut fmt::Formatter<W>) -> fmt::Result {
+        let mut left = MAX_SHOWN;
+        for letter in self.0.chars() {
+            if left == 0 {
+                return f.write_str("..");
+            }
+            if is_hidden(letter) {
+                write!(f, "<U+{:04X}>", letter as u32)?;
+            } else {
+                f.write_char(letter)?;
+            }
+            left -= 1;
         }
-        None => why.push_str(": missing"),
+        Ok(())
+    }
+}
+
+/// Adds a value as it stands in the line of a place, or what it is if it is long.
+pub(crate) fn push_value(
+    why: &mut Said,
+    place: Place<'_>,
+    value: &Value,
+) -> Result<(), AllocError> {
+    match value {
+        Value::Array(_) => why.push_found(&"a list"),
+        Value::Object(_) => why.push_found(&"an object"),
+        Value::Number(_) => match number_at_column(why, place) {
+            Some(number) => why.push_found(&Front(number)),
+            None => push_printed(why, value),
+        },
+        _ => push_printed(why, value),
+    }
+}
+
+/// The number at the noted column of the line of a place, as it is written there.
+fn number_at_column<'a>(why: &Said, place: Place<'a>) -> Option<&'a str> {
+    number_from(place.line, why.column?.checked_sub(1)?)
+}
+
+/// Adds a value that is no list and no object.
+fn push_printed(why: &mut Said, value: &Value) -> Result<(), AllocError> {
+    let mut text = String::new(*why.text.allocator());
+    write!(text, "{value}")?;
+    why.push_found(&Front(&text))
+}
+
+/// Adds what stands at a place: a value, or nothing.
+pub(crate) fn push_found(
+    why: &mut Said,
+    place: Place<'_>,
+    value: Option<&Value>,
+) -> Result<(), AllocError> {
+    match value {
+        Some(value) => push_value(why, place, value),
+        None => why.text.push_str(": missing"),
     }
 }
 
 /// Adds what stands at a place, and what is wanted.
 pub(crate) fn push_wanted<D: Display>(
-    why: &mut String,
+    why: &mut Said,
+    place: Place<'_>,
     value: Option<&Value>,
     wanted: &D,
 ) -> Result<(), AllocError> {
-    push_found(why, value)?;
-    write!(why, ", wanted {wanted}")
+    push_found(why, place, value)?;
+    why.push_wanted(wanted)
 }
 
 /// Adds the first of these members that the object at a place does not have in its form, or that
 /// it is no object. Returns whether something was added.
 pub(crate) fn push_misfit(
-    why: &mut String,
+    why: &mut Said,
     place: Place<'_>,
     object: &Value,
     members: &[Member],
 ) -> Result<bool, AllocError> {
     if !object.is_object() {
-        write!(why, "{place}")?;
-        push_wanted(why, Some(object), &Form::Object)?;
+        let steps = place.steps(*why.text.allocator())?;
+        note_column(why, place, &steps)?;
+        why.push_member(&place)?;
+        push_wanted(why, place, Some(object), &Form::Object)?;
         return Ok(true);
     }
     let Some(Member(name, form)) = first_misfit(object, members) else {
         return Ok(false);
     };
     push_place(why, place, name)?;
-    push_wanted(why, object.get(name), &form)?;
+    push_wanted(why, place, object.get(name), &form)?;
     Ok(true)
 }

@@ -1,7 +1,11 @@
 //! Topologies of the right form that break a rule: which AS or which link is meant.
 
-use crate::found::push_value;
+ghost use Rattle.std.specs.Prelude.{◌≡◌, nat_le};
+ghost use Rattle.line_faults.specs.inner.Joining.{first_at_fault};
+
+use crate::found::{Place, push_place};
 use crate::history::{text_of, whole_of};
+use crate::said::Said;
 use crate::sentence::push_sentence;
 use crate::topology::values_of;
 use isd_as::IsdAs;
@@ -48,6 +52,13 @@ struct EndPlace {
     side: Side,
 }
 
+impl EndPlace {
+    /// The end in a line.
+    fn in_line<'a>(self, line: Place<'a>) -> Place<'a> {
+        line.item("links", self.link).part(self.side.name())
+    }
+}
+
 impl fmt::Display for EndPlace {
     fn fmt<W: fmt::Write>(&self, f: &mut fmt::Formatter<W>) -> fmt::Result {
         write!(f, "links[{}].{}", self.link, self.side.name())
@@ -87,27 +98,35 @@ fn address_of(object: &Value) -> Option<IsdAs> {
 /// Adds which AS or link breaks the rule of a topology whose refusal has this number.
 pub(crate) fn push_broken_rule(
     alloc: Global,
-    why: &mut String,
-    code: u16,
+    why: &mut Said,
+    line: Place<'_>,
+    code: usize,
     topology: &Value,
 ) -> Result<(), AllocError> {
     let ases = values_of(topology, "ases");
     let links = values_of(topology, "links");
     match code {
-        18 => push_count(why, ases.len(), links.len())?,
-        12 => push_doubled_as(alloc, why, ases)?,
-        13 => push_doubled_interface(alloc, why, links)?,
-        _ => push_bad_links(why, code, &rows_of(alloc, ases)?, links)?,
+        18 => push_count(why, line, ases.len(), links.len())?,
+        12 => push_doubled_as(alloc, why, line, ases)?,
+        13 => push_doubled_interface(alloc, why, line, links)?,
+        _ => push_bad_links(why, line, code, &rows_of(alloc, ases)?, links)?,
     }
-    if !why.is_empty() {
-        why.push_str(": ")?;
+    if !why.text.is_empty() {
+        why.text.push_str(": ")?;
     }
     push_sentence(why, code)
 }
 
 /// Adds how many ASes and links there are.
-fn push_count(why: &mut String, ases: usize, links: usize) -> Result<(), AllocError> {
-    write!(why, "ases: found {ases}; links: found {links}")
+fn push_count(
+    why: &mut Said,
+    line: Place<'_>,
+    ases: usize,
+    links: usize,
+) -> Result<(), AllocError> {
+    push_place(why, line, "ases")?;
+    why.push_found(&ases)?;
+    write!(why.text, "; links: found {links}")
 }
 
 /// The ASes of a list; of two with one address the last.
@@ -127,17 +146,21 @@ fn rows_of(alloc: Global, ases: &[Value]) -> Result<AsRows, AllocError> {
 }
 
 /// Adds the first AS that is listed before.
-fn push_doubled_as(alloc: Global, why: &mut String, ases: &[Value]) -> Result<(), AllocError> {
+fn push_doubled_as(
+    alloc: Global,
+    why: &mut Said,
+    line: Place<'_>,
+    ases: &[Value],
+) -> Result<(), AllocError> {
     let mut places = BTreeMap::new(alloc);
     for (place, one) in ases.iter().enumerate() {
         let Some(ia) = address_of(one) else {
             continue;
         };
         if let Some(before) = places.insert(ia.number(), place)? {
-            return write!(
-                why,
-                "ases[{place}].ia: found {ia}, which is ases[{before}] too"
-            );
+            push_place(why, line.item("ases", place), "ia")?;
+            why.push_found(&ia)?;
+            return write!(why.text, ", which is ases[{before}] too");
         }
     }
     Ok(())
@@ -146,13 +169,14 @@ fn push_doubled_as(alloc: Global, why: &mut String, ases: &[Value]) -> Result<()
 /// Adds the first interface at which a link before ends.
 fn push_doubled_interface(
     alloc: Global,
-    why: &mut String,
+    why: &mut Said,
+    line: Place<'_>,
     links: &[Value],
 ) -> Result<(), AllocError> {
     let mut ends = Ends::new(alloc);
     for (place, link) in links.iter().enumerate() {
-        if push_doubled_end(why, &mut ends, LinkEnd::of(place, link, Side::A))?
-            || push_doubled_end(why, &mut ends, LinkEnd::of(place, link, Side::B))?
+        if push_doubled_end(why, line, &mut ends, LinkEnd::of(place, link, Side::A))?
+            || push_doubled_end(why, line, &mut ends, LinkEnd::of(place, link, Side::B))?
         {
             return Ok(());
         }
@@ -163,7 +187,8 @@ fn push_doubled_interface(
 /// Adds an end if one before is at its interface, and notes it among them. Returns whether there is
 /// one.
 fn push_doubled_end(
-    why: &mut String,
+    why: &mut Said,
+    line: Place<'_>,
     ends: &mut Ends,
     end: Option<LinkEnd>,
 ) -> Result<bool, AllocError> {
@@ -179,10 +204,9 @@ fn push_doubled_end(
     let Some(before) = ends.insert((ia.number(), number), place)? else {
         return Ok(false);
     };
-    write!(
-        why,
-        "{place}.if: found {number}, and {ia} has it at {before} too"
-    )?;
+    push_place(why, place.in_line(line), "if")?;
+    why.push_found(&number)?;
+    write!(why.text, ", and {ia} has it at {before} too")?;
     Ok(true)
 }
 
@@ -205,50 +229,73 @@ enum EndFault {
 
 /// Adds the first link that breaks the rule of this number.
 fn push_bad_links(
-    why: &mut String,
-    code: u16,
+    why: &mut Said,
+    line: Place<'_>,
+    code: usize,
     rows: &AsRows,
     links: &[Value],
 ) -> Result<(), AllocError> {
     for (place, link) in links.iter().enumerate() {
         if let Some((end, fault)) = fault_of_link(rows, code, place, link) {
-            return push_end_fault(why, end, fault);
+            return push_end_fault(why, line, end, fault);
         }
     }
     Ok(())
 }
 
+/// The numbers that a router of an AS may have.
+#[derive(Clone, Copy)]
+struct RoutersOf {
+    /// The place of the AS in the list.
+    place: usize,
+    /// How many routers it has.
+    routers: u64,
+}
+
+impl fmt::Display for RoutersOf {
+    fn fmt<W: fmt::Write>(&self, f: &mut fmt::Formatter<W>) -> fmt::Result {
+        let Self { place, routers } = self;
+        write!(f, "less than ases[{place}].routers, which is {routers}")
+    }
+}
+
+/// Adds that the AS of an end has too few routers for it.
+fn push_no_router(
+    why: &mut Said,
+    line: Place<'_>,
+    end: LinkEnd,
+    row: AsRow,
+) -> Result<(), AllocError> {
+    push_place(why, end.place.in_line(line), "router")?;
+    why.push_found(&end.router)?;
+    let AsRow { place, routers, .. } = row;
+    why.push_wanted(&RoutersOf { place, routers })
+}
+
 /// Adds what is wrong with an end.
-fn push_end_fault(why: &mut String, end: LinkEnd, fault: EndFault) -> Result<(), AllocError> {
-    let LinkEnd {
-        place,
-        ia,
-        router,
-        ..
-    } = end;
+fn push_end_fault(
+    why: &mut Said,
+    line: Place<'_>,
+    end: LinkEnd,
+    fault: EndFault,
+) -> Result<(), AllocError> {
     let reason = match fault {
-        EndFault::NoRouter(row) => {
-            let AsRow {
-                place: at,
-                routers,
-                ..
-            } = row;
-            write!(why, "{place}.router: found {router}, wanted less than ")?;
-            return write!(why, "ases[{at}].routers, which is {routers}");
-        }
-        EndFault::Unlisted => "which is not among ases",
-        EndFault::SameAs => "in which the other end is too",
-        EndFault::NotCore => "which is no core AS",
-        EndFault::OtherIsd => "which is in another ISD than its parent",
-        EndFault::CoreChild => "which is a core AS and no child",
+        EndFault::NoRouter(row) => return push_no_router(why, line, end, row),
+        EndFault::Unlisted => ", which is not among ases",
+        EndFault::SameAs => ", in which the other end is too",
+        EndFault::NotCore => ", which is no core AS",
+        EndFault::OtherIsd => ", which is in another ISD than its parent",
+        EndFault::CoreChild => ", which is a core AS and no child",
     };
-    write!(why, "{place}.ia: found {ia}, {reason}")
+    push_place(why, end.place.in_line(line), "ia")?;
+    why.push_found(&end.ia)?;
+    why.text.push_str(reason)
 }
 
 /// The end because of which a link breaks the rule of this number, and what is wrong with it.
 fn fault_of_link(
     rows: &AsRows,
-    code: u16,
+    code: usize,
     place: usize,
     link: &Value,
 ) -> Option<(LinkEnd, EndFault)> {
@@ -258,18 +305,38 @@ fn fault_of_link(
         let is_core = text_of(link, "kind")? == "core";
         return fault_of_joining(rows, is_core, a, b);
     }
-    match fault_of_end(rows, code, a) {
+    let (of_a, of_b) = (fault_of_end(rows, code, a), fault_of_end(rows, code, b));
+    first_at_fault(a, of_a, b, of_b)
+}
+
+/// The first of two ends with a fault, and its fault.
+fn first_at_fault(
+    a: LinkEnd,
+    of_a: Option<EndFault>,
+    b: LinkEnd,
+    of_b: Option<EndFault>,
+) -> Option<(LinkEnd, EndFault)>
+    ensures { result ≡ first_at_fault a b of_a of_b }
+{
+    match of_a {
         Some(fault) => Some((a, fault)),
-        None => Some((b, fault_of_end(rows, code, b)?)),
+        None => Some((b, of_b?)),
     }
 }
 
+/// Whether an AS has no router of this number; its routers are numbered from 0.
+fn lacks_router(row: &AsRow, router: u64) -> bool
+    ensures { result ≡ nat_le row.now.routers router }
+{
+    row.routers <= router
+}
+
 /// What is wrong with an end by itself, by the rule of this number.
-fn fault_of_end(rows: &AsRows, code: u16, end: LinkEnd) -> Option<EndFault> {
+fn fault_of_end(rows: &AsRows, code: usize, end: LinkEnd) -> Option<EndFault> {
     let Some(row) = rows.get(&end.ia.number()) else {
         return Some(EndFault::Unlisted);
     };
-    if code == 16 && row.routers <= end.router {
+    if code == 16 && lacks_router(row, end.router) {
         Some(EndFault::NoRouter(*row))
     } else {
         None

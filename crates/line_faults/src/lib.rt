@@ -5,22 +5,31 @@
 //! soon as its reply is known. Of a line that is right it says nothing.
 #![tactic(auto)]
 
+mod doubled;
 mod event;
 mod explanation;
+mod finding;
 mod form;
 mod found;
 mod history;
 mod joining;
 mod json;
+mod json_text;
+mod located;
 mod member;
 mod notes;
 mod policy;
 mod reason;
 mod refused;
+mod reply;
+mod said;
 mod sentence;
 mod sequence;
 mod telling;
 mod topology;
+mod turn;
+mod unanswered;
 mod unread;
 
+pub use finding::FindingForm;
 pub use telling::explain;

@@ -75,7 +75,7 @@ const SWEEP: [Member; 0] = [];
 const ASK: [Member; 3] = [
     Member("src", Form::Address),
     Member("dst", Form::Address),
-    Member("limit", LONG),
+    Member("limit", Form::Limit),
 ];
 
 const SEND: [Member; 3] = [

@@ -1,9 +1,10 @@
 //! Policies of a request: of which form they are not, or where they can't be read.
 
 use crate::form::Form;
-use crate::found::{Place, push_misfit, push_place, push_value, push_wanted};
+use crate::found::{Place, push_entry, push_misfit, push_place, push_value, push_wanted};
 use crate::history::text_of;
 use crate::member::OPTION;
+use crate::said::Said;
 use crate::sentence::push_sentence;
 use crate::sequence::push_stop;
 use policy_expr::{Acl, AclText, MAX_ACL_ENTRIES, PolicyFault, Seq};
@@ -14,29 +15,33 @@ use std::alloc::{AllocError, Global};
 use std::fmt::Write;
 
 /// Adds the first part of a request's policy that has not its form. Returns whether there is one.
-pub(crate) fn push_bad_form(why: &mut String, request: &Value) -> Result<bool, AllocError> {
+pub(crate) fn push_bad_form(
+    why: &mut Said,
+    line: Place<'_>,
+    request: &Value,
+) -> Result<bool, AllocError> {
     let Some(options) = request.get("options") else {
-        return push_bad_texts(why, Place::line(), request);
+        return push_bad_texts(why, line, request);
     };
     for name in ["acl", "sequence"] {
         if let Some(value) = request.get(name) {
-            why.push_str(name)?;
-            push_wanted(why, Some(value), &"none beside options")?;
+            push_place(why, line, name)?;
+            push_wanted(why, line, Some(value), &"none beside options")?;
             return Ok(true);
         }
     }
     let Value::Array(options) = options else {
-        why.push_str("options")?;
-        push_wanted(why, Some(options), &Form::List)?;
+        push_place(why, line, "options")?;
+        push_wanted(why, line, Some(options), &Form::List)?;
         return Ok(true);
     };
-    push_bad_option(why, options)
+    push_bad_option(why, line, options)
 }
 
 /// Adds the first option that has not its form. Returns whether there is one.
-fn push_bad_option(why: &mut String, options: &[Value]) -> Result<bool, AllocError> {
+fn push_bad_option(why: &mut Said, line: Place<'_>, options: &[Value]) -> Result<bool, AllocError> {
     for (number, option) in options.iter().enumerate() {
-        let place = Place::item("options", number);
+        let place = line.item("options", number);
         if push_misfit(why, place, option, &OPTION[..1])? || push_bad_texts(why, place, option)? {
             return Ok(true);
         }
@@ -45,7 +50,7 @@ fn push_bad_option(why: &mut String, options: &[Value]) -> Result<bool, AllocErr
 }
 
 /// Adds the text of a policy that is none. Returns whether there is one.
-fn push_bad_texts(why: &mut String, place: Place<'_>, policy: &Value) -> Result<bool, AllocError> {
+fn push_bad_texts(why: &mut Said, place: Place<'_>, policy: &Value) -> Result<bool, AllocError> {
     match policy.get("acl") {
         None => {}
         Some(Value::Array(entries)) => {
@@ -55,7 +60,7 @@ fn push_bad_texts(why: &mut String, place: Place<'_>, policy: &Value) -> Result<
         }
         Some(value) => {
             push_place(why, place, "acl")?;
-            push_wanted(why, Some(value), &"a list of texts")?;
+            push_wanted(why, place, Some(value), &"a list of texts")?;
             return Ok(true);
         }
     }
@@ -63,19 +68,18 @@ fn push_bad_texts(why: &mut String, place: Place<'_>, policy: &Value) -> Result<
         None | Some(Value::String(_)) => Ok(false),
         Some(value) => {
             push_place(why, place, "sequence")?;
-            push_wanted(why, Some(value), &Form::Text)?;
+            push_wanted(why, place, Some(value), &Form::Text)?;
             Ok(true)
         }
     }
 }
 
 /// Adds the first entry of a list that is no text. Returns whether there is one.
-fn push_no_text(why: &mut String, place: Place<'_>, entries: &[Value]) -> Result<bool, AllocError> {
+fn push_no_text(why: &mut Said, place: Place<'_>, entries: &[Value]) -> Result<bool, AllocError> {
     for (number, entry) in entries.iter().enumerate() {
         if !entry.is_string() {
-            push_place(why, place, "acl")?;
-            write!(why, "[{number}]")?;
-            push_wanted(why, Some(entry), &Form::Text)?;
+            push_entry(why, place, number)?;
+            push_wanted(why, place, Some(entry), &Form::Text)?;
             return Ok(true);
         }
     }
@@ -86,26 +90,28 @@ fn push_no_text(why: &mut String, place: Place<'_>, entries: &[Value]) -> Result
 /// refusal of this number.
 pub(crate) fn push_unread(
     alloc: Global,
-    why: &mut String,
-    code: u16,
+    why: &mut Said,
+    line: Place<'_>,
+    code: usize,
     request: &Value,
 ) -> Result<(), AllocError> {
     match request.get("options") {
-        Some(Value::Array(options)) => push_unread_option(alloc, why, options)?,
-        _ => push_unread_policy(alloc, why, Place::line(), request)?,
+        Some(Value::Array(options)) => push_unread_option(alloc, why, line, options)?,
+        _ => push_unread_policy(alloc, why, line, request)?,
     };
-    why.push_str(": ")?;
+    why.text.push_str(": ")?;
     push_sentence(why, code)
 }
 
 /// Adds where the first option that is refused can't be read. Returns whether there is one.
 fn push_unread_option(
     alloc: Global,
-    why: &mut String,
+    why: &mut Said,
+    line: Place<'_>,
     options: &[Value],
 ) -> Result<bool, AllocError> {
     for (number, option) in options.iter().enumerate() {
-        if push_unread_policy(alloc, why, Place::item("options", number), option)? {
+        if push_unread_policy(alloc, why, line.item("options", number), option)? {
             return Ok(true);
         }
     }
@@ -115,7 +121,7 @@ fn push_unread_option(
 /// Adds where a policy can't be read. Returns whether it can't.
 fn push_unread_policy(
     alloc: Global,
-    why: &mut String,
+    why: &mut Said,
     place: Place<'_>,
     policy: &Value,
 ) -> Result<bool, AllocError> {
@@ -133,7 +139,7 @@ fn push_unread_policy(
 /// Adds where a sequence can't be read. Returns whether it can't.
 fn push_unread_sequence(
     alloc: Global,
-    why: &mut String,
+    why: &mut Said,
     place: Place<'_>,
     text: &str,
 ) -> Result<bool, AllocError> {
@@ -183,7 +189,7 @@ fn unread_entry(alloc: Global, entries: &[Value]) -> Result<Option<usize>, Alloc
 /// Adds the entry because of which a list can't be read. Returns whether there is one.
 fn push_unread_list(
     alloc: Global,
-    why: &mut String,
+    why: &mut Said,
     place: Place<'_>,
     entries: &[Value],
 ) -> Result<bool, AllocError> {
@@ -192,13 +198,15 @@ fn push_unread_list(
     if number.is_none() && count > 0 && count <= MAX_ACL_ENTRIES {
         return Ok(false);
     }
-    push_place(why, place, "acl")?;
     match number.and_then(|number| Some((number, entries.get(number)?))) {
         Some((number, entry)) => {
-            write!(why, "[{number}]: found ")?;
-            push_value(why, entry)?;
+            push_entry(why, place, number)?;
+            push_value(why, place, entry)?;
         }
-        None => write!(why, ": found {count} entries")?,
+        None => {
+            push_place(why, place, "acl")?;
+            write!(why.text, ": found {count} entries")?;
+        }
     }
     Ok(true)
 }

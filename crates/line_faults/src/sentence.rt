@@ -1,5 +1,6 @@
 //! The sentences of refusals, by their numbers.
 
+use crate::said::Said;
 use beaconing::BeaconFault;
 use combinator::CombineFault;
 use network_core::OWN_FAULTS;
@@ -74,20 +75,20 @@ static PATH: [VerifyFault; 13] = [
 
 /// Adds the sentence of the fault of this number, if it is among them.
 fn push_among<F: NumberedFault>(
-    why: &mut String,
+    why: &mut Said,
     faults: &[F],
-    code: u16,
+    code: usize,
 ) -> Result<(), AllocError> {
     for fault in faults {
-        if fault.code() == code {
-            return write!(why, "{fault}");
+        if usize::from(fault.code()) == code {
+            return write!(why.text, "{fault}");
         }
     }
     Ok(())
 }
 
 /// Adds the sentence of the refusal of this number; nothing if no line is refused with it.
-pub(crate) fn push_sentence(why: &mut String, code: u16) -> Result<(), AllocError> {
+pub(crate) fn push_sentence(why: &mut Said, code: usize) -> Result<(), AllocError> {
     match code {
         10..=18 => push_among(why, &TOPOLOGY, code),
         31..=44 => push_among(why, &BEACON, code),

@@ -1,5 +1,7 @@
 //! Where the text of a sequence can't be read on.
 
+use crate::found::Quoted;
+use crate::said::Said;
 use policy_expr::{HopPred, MAX_NESTING};
 use std::alloc::{AllocError, Global};
 use std::fmt::Write;
@@ -90,7 +92,7 @@ fn pieces_of<'a>(alloc: Global, text: &'a str) -> Result<Vec<Piece<'a>>, AllocEr
 
 /// Adds the column, counted from 1, at which a sequence can't be read on, and what stands there;
 /// nothing if it can be read to its end.
-pub(crate) fn push_stop(alloc: Global, why: &mut String, text: &str) -> Result<(), AllocError> {
+pub(crate) fn push_stop(alloc: Global, why: &mut Said, text: &str) -> Result<(), AllocError> {
     let mut state = State {
         open: Vec::new(alloc),
         has_item: false,
@@ -98,17 +100,21 @@ pub(crate) fn push_stop(alloc: Global, why: &mut String, text: &str) -> Result<(
     for piece in pieces_of(alloc, text)? {
         if !state.read(piece)? {
             let column = piece.start.saturating_add(1);
-            return write!(why, ": column {column}: found \"{}\"", piece.text);
+            write!(why.text, ": column {column}")?;
+            return why.push_found(&Quoted(piece.text));
         }
     }
     if !state.has_item {
         let column = text.len().saturating_add(1);
-        return write!(why, ": column {column}: found the end");
+        write!(why.text, ": column {column}")?;
+        return why.push_found(&"the end");
     }
     match state.open.last() {
         Some(place) => {
             let column = place.saturating_add(1);
-            write!(why, ": column {column}: found \"(\", which is not closed")
+            write!(why.text, ": column {column}")?;
+            why.push_found(&Quoted("("))?;
+            why.text.push_str(", which is not closed")
         }
         None => Ok(()),
     }

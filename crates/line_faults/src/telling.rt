@@ -9,7 +9,8 @@ ghost use Rattle.event_lines.specs.inner.Session.{last_after};
 ghost use Rattle.line_faults.specs.Explained.{AreExplained};
 ghost use Rattle.line_faults.specs.inner.Telling.{Exchanges, Finishes, TellsBytes, TellsLine, Writes, stands_at, telling_value, untold};
 
-use crate::notes::Notes;
+use crate::finding::FindingForm;
+use crate::notes::{Ahead, Notes};
 use event_lines::input::{read_into, wanted_after};
 use event_lines::{AcceptedLines, LineRun, RunFault, cut_line};
 use std::alloc::Global;
@@ -24,31 +25,47 @@ pub(crate) struct Telling {
     rest: Vec<u8>,
 }
 
-/// Answers a line, and adds what there is to say of it.
-fn tell(alloc: Global, run: &mut LineRun, notes: &mut Notes, line: &[u8]) -> Result<(), RunFault>
+/// Answers a line of which this is known, and adds what there is to say of it.
+fn tell_known(
+    alloc: Global,
+    run: &mut LineRun,
+    notes: &mut Notes,
+    line: &[u8],
+    ahead: &Ahead,
+) -> Result<(), RunFault>
     requires { notes.old.number ≤ most_input }
     ensures { TellsLine result line.now (stands_at run.old notes.old) (stands_at run.new notes.new)
         (Some (string_bytes notes.old.text)) (Some (string_bytes notes.new.text)) }
 {
     match run.answer(alloc, AcceptedLines::All, line) {
-        Ok(()) => notes.tell(alloc, run, line),
+        Ok(()) => notes.tell(alloc, run, line, ahead),
         Err(RunFault::Topology) => {
-            notes.tell(alloc, run, line)?;
+            notes.tell(alloc, run, line, ahead)?;
             Err(RunFault::Topology)
         }
         Err(fault) => Err(fault),
     }
 }
 
+/// Answers a line, and adds what there is to say of it.
+fn tell(alloc: Global, run: &mut LineRun, notes: &mut Notes, line: &[u8]) -> Result<(), RunFault>
+    requires { notes.old.number ≤ most_input }
+    ensures { TellsLine result line.now (stands_at run.old notes.old) (stands_at run.new notes.new)
+        (Some (string_bytes notes.old.text)) (Some (string_bytes notes.new.text)) }
+{
+    let ahead = Ahead::of(alloc, run, line)?;
+    tell_known(alloc, run, notes, line, &ahead)
+}
+
 impl Telling {
-    /// A run that has not begun.
-    fn new(alloc: Global) -> Self
-        ensures value { telling_value result ≡ untold }
+    /// A run that has not begun, for findings in this form.
+    fn new(alloc: Global, form: FindingForm) -> Self
+        ensures value { telling_value result ≡ untold form }
         ensures text { string_bytes result.notes.text ≡ [] }
     {
         Self {
             run: LineRun::new(alloc),
-            notes: Notes::new(alloc),
+            notes: Notes::new(alloc, form),
             rest: Vec::new(alloc),
         }
     }
@@ -171,31 +188,36 @@ impl Telling {
     }
 }
 
-/// Answers the lines of a source as [`listen`](event_lines::listen) does, and writes what there is
-/// to say of each as soon as its reply is known. For each line that is refused there is a line: its
-/// number from 1, its reply, the place in it, what stands there, and what is wanted or which rule it
-/// breaks. After it, or alone if the line is right, come warnings: members that nobody reads, and
+/// Answers the lines of a source as [`listen`](event_lines::listen) does, and writes what is found
+/// in each, in this form, as soon as its reply is known. For each line that is refused there is a
+/// finding: its number from 1, its reply, the place in it, what stands there, and what is wanted or
+/// which rule it breaks. A `turn` at which a router refuses the packet has one too: the check that
+/// fails, with both its sides, and the line that cut the link, changed the key or altered the
+/// packet. After it, or alone if the line is right, come warnings: members that nobody reads, and
 /// addresses in requests that no AS has. Of other lines nothing is said.
 ///
-/// The faults are those of `listen`: [`RunFault::Topology`] after the explanation of a topology that
-/// is refused, and [`RunFault::Memory`] also if memory runs out for what there is to say of a line,
-/// of which nothing is written then.
+/// Returns whether something was found.
+///
+/// The faults are those of `listen`: [`RunFault::Topology`] after the finding about a topology that
+/// is refused, and [`RunFault::Memory`] also if memory runs out for what is found in a line, of
+/// which nothing is written then.
 ///
 /// It takes the time and memory of `listen`, and for each line also time in proportion to its
-/// bytes, and for a refused line that names an AS to the number of links. What there is to say of
-/// the lines of one read of up to 8,192 bytes is held at a time; of earlier lines only numbers are
-/// kept.
+/// bytes, and for a refused line that names an AS to the number of links. What is found in the lines
+/// of one read of up to 8,192 bytes is held at a time; of earlier lines a few numbers are kept for
+/// each link, each AS and each packet that they changed.
 pub fn explain<S: Source, K: Sink>(
     alloc: Global,
+    form: FindingForm,
     source: &mut S,
     sink: &mut K,
-) -> Result<(), RunFault>
-    ensures explained { AreExplained result (S.left source.old) (S.left source.new)
+) -> Result<bool, RunFault>
+    ensures explained { AreExplained form result (S.left source.old) (S.left source.new)
         (K.held sink.old) (K.held sink.new) }
     ensures source { S.failed source.new ≡ (S.failed source.old || is_read_fault result) }
     ensures sink { K.failed sink.new ≡ (K.failed sink.old || is_write_fault result) }
 {
-    let mut telling = Telling::new(alloc);
+    let mut telling = Telling::new(alloc, form);
     let mut room = [0u8; MAX_READ_LEN];
     let mut count = 0;
     loop {
@@ -204,7 +226,8 @@ pub fn explain<S: Source, K: Sink>(
             return Err(RunFault::Read);
         };
         if bytes.is_empty() {
-            return telling.finish(alloc, sink);
+            telling.finish(alloc, sink)?;
+            return Ok(telling.notes.found);
         }
         if count == MAX_INPUT_LEN {
             return Err(RunFault::InputTooLong);

@@ -1,9 +1,10 @@
 //! What is strange in a line and no fault: members that nobody reads, and addresses that no AS has.
 
-use crate::found::{Place, push_front, push_place};
-use crate::history::word_of;
+use crate::found::{Place, push_name, push_place};
+use crate::history::{address_at, word_of};
 use crate::member::{AS, END, EVENT, LINK, Member, OPTION, POLICY, TOPOLOGY, is_among, members_of};
-use crate::refused::{Context, address_at};
+use crate::refused::Context;
+use crate::said::Said;
 use crate::topology::values_of;
 use serde_json::Value;
 use std::alloc::{AllocError, Global};
@@ -11,7 +12,7 @@ use std::alloc::{AllocError, Global};
 /// Adds a warning for each member of an object at a place that is in neither list.
 fn add_unread(
     alloc: Global,
-    warnings: &mut Vec<String>,
+    warnings: &mut Vec<Said>,
     place: Place<'_>,
     object: &Value,
     members: &[Member],
@@ -29,26 +30,28 @@ fn add_unread(
 }
 
 /// The warning about a member that nobody reads.
-fn unread_warning(alloc: Global, place: Place<'_>, name: &str) -> Result<String, AllocError> {
-    let mut warning = String::new(alloc);
-    push_place(&mut warning, place, "")?;
-    push_front(&mut warning, name)?;
-    warning.push_str(": no member of this name is read here")?;
+fn unread_warning(alloc: Global, place: Place<'_>, name: &str) -> Result<Said, AllocError> {
+    let mut warning = Said::new(alloc);
+    push_name(&mut warning, place, name)?;
+    warning
+        .text
+        .push_str(": no member of this name is read here")?;
     Ok(warning)
 }
 
 /// Adds a warning for each member of a topology that nobody reads.
 pub(crate) fn add_unread_of_topology(
     alloc: Global,
-    warnings: &mut Vec<String>,
+    warnings: &mut Vec<Said>,
+    line: Place<'_>,
     topology: &Value,
 ) -> Result<(), AllocError> {
-    add_unread(alloc, warnings, Place::line(), topology, &TOPOLOGY, &[])?;
+    add_unread(alloc, warnings, line, topology, &TOPOLOGY, &[])?;
     for (number, one) in values_of(topology, "ases").iter().enumerate() {
-        add_unread(alloc, warnings, Place::item("ases", number), one, &AS, &[])?;
+        add_unread(alloc, warnings, line.item("ases", number), one, &AS, &[])?;
     }
     for (number, link) in values_of(topology, "links").iter().enumerate() {
-        let place = Place::item("links", number);
+        let place = line.item("links", number);
         add_unread(alloc, warnings, place, link, &LINK, &[])?;
         add_unread_of_end(alloc, warnings, place, link, "a")?;
         add_unread_of_end(alloc, warnings, place, link, "b")?;
@@ -59,10 +62,10 @@ pub(crate) fn add_unread_of_topology(
 /// Adds a warning for each member of an end of a link that nobody reads.
 fn add_unread_of_end(
     alloc: Global,
-    warnings: &mut Vec<String>,
+    warnings: &mut Vec<Said>,
     place: Place<'_>,
     link: &Value,
-    name: &str,
+    name: &'static str,
 ) -> Result<(), AllocError> {
     match link.get(name) {
         Some(end) => add_unread(alloc, warnings, place.part(name), end, &END, &[]),
@@ -74,7 +77,8 @@ fn add_unread_of_end(
 /// of a request that no AS has.
 pub(crate) fn add_unread_of_event(
     alloc: Global,
-    warnings: &mut Vec<String>,
+    warnings: &mut Vec<Said>,
+    line: Place<'_>,
     context: &Context<'_>,
     event: &Value,
 ) -> Result<(), AllocError> {
@@ -83,21 +87,22 @@ pub(crate) fn add_unread_of_event(
         return Ok(());
     };
     if word != "ask" {
-        return add_unread(alloc, warnings, Place::line(), event, members, &EVENT);
+        return add_unread(alloc, warnings, line, event, members, &EVENT);
     }
-    add_unread(alloc, warnings, Place::line(), event, members, &POLICY)?;
+    add_unread(alloc, warnings, line, event, members, &POLICY)?;
     for (number, option) in values_of(event, "options").iter().enumerate() {
-        let place = Place::item("options", number);
+        let place = line.item("options", number);
         add_unread(alloc, warnings, place, option, &OPTION, &[])?;
     }
-    add_unlisted(alloc, warnings, context, event, "src")?;
-    add_unlisted(alloc, warnings, context, event, "dst")
+    add_unlisted(alloc, warnings, line, context, event, "src")?;
+    add_unlisted(alloc, warnings, line, context, event, "dst")
 }
 
 /// Adds a warning if no AS has the address of this name in a request.
 fn add_unlisted(
     alloc: Global,
-    warnings: &mut Vec<String>,
+    warnings: &mut Vec<Said>,
+    line: Place<'_>,
     context: &Context<'_>,
     request: &Value,
     name: &str,
@@ -108,6 +113,10 @@ fn add_unlisted(
     if net.topology().as_info(ia).is_ok() {
         return Ok(());
     }
-    warnings.push(format!(in alloc; "{name}: found {ia}: the topology has no such AS")?)?;
+    let mut warning = Said::new(alloc);
+    push_place(&mut warning, line, name)?;
+    warning.push_found(&ia)?;
+    warning.text.push_str(": the topology has no such AS")?;
+    warnings.push(warning)?;
     Ok(())
 }

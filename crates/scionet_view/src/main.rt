@@ -1,8 +1,9 @@
 //! `scionet_view`: passes the process's words and streams to the views.
 //!
-//! The status is 0 if something was shown, also if nobody reads it to its end; 2 if the words are
-//! refused or ask for help; and 1 after any other fault, whose message goes to standard error. There
-//! it is also told which lines of a run were refused.
+//! The status is 0 if something was shown, also if nobody reads it to its end, and 3 if that is an
+//! explanation that found something; 2 if the words are refused or ask for help; and 1 after any
+//! other fault, whose message goes to standard error. There it is also told which lines of a run were
+//! refused.
 #![tactic(auto)]
 
 mod named;
@@ -19,6 +20,9 @@ use std::process::ExitCode;
 use streams::{Reader, Writer};
 use view_words::{View, read_view};
 use views::{Remark, ViewFault, show};
+
+/// The status if an explanation found something.
+const FOUND: u8 = 3;
 
 /// The view that the words of the process ask for.
 fn asked(rt: &HostRuntime) -> Result<View, CommandFault> {
@@ -57,11 +61,16 @@ fn tell_fault(rt: &HostRuntime, view: &View, fault: &ViewFault, replies: &Replie
 }
 
 /// Tells what else there is to say of what was shown, if there is something, and returns the status.
-fn tell_remark(rt: &HostRuntime, remark: Option<Remark>) -> Status {
-    if let Some(remark) = remark {
-        let _ = eprintln!(rt; "scionet_view: {}", remark.text());
+fn tell_remark(rt: &HostRuntime, remark: Option<Remark>) -> u8 {
+    match remark {
+        None => Status::Done.code(),
+        // Its lines say what was found.
+        Some(Remark::Found) => FOUND,
+        Some(remark) => {
+            let _ = eprintln!(rt; "scionet_view: {}", remark.text());
+            Status::Done.code()
+        }
     }
-    Status::Done
 }
 
 /// Tells how a view ended, if there is something to tell, and returns the status.
@@ -70,10 +79,10 @@ fn tell_end(
     view: &View,
     shown: &Result<Option<Remark>, ViewFault>,
     replies: &Replies,
-) -> Status {
+) -> u8 {
     match shown {
         Ok(remark) => tell_remark(rt, *remark),
-        Err(fault) => tell_fault(rt, view, fault, replies),
+        Err(fault) => tell_fault(rt, view, fault, replies).code(),
     }
 }
 
@@ -94,7 +103,7 @@ fn tell_lines(rt: &HostRuntime, replies: &Replies) {
 
 /// Shows the view of standard input on standard output, tells on standard error what else there is
 /// to tell, and returns the status.
-fn run(rt: &HostRuntime, view: &View) -> Status {
+fn run(rt: &HostRuntime, view: &View) -> u8 {
     let mut replies = Replies::new();
     let mut output = Output::new(Writer::new(rt.stdout()));
     let shown = show(
@@ -105,7 +114,7 @@ fn run(rt: &HostRuntime, view: &View) -> Status {
         &mut output,
     );
     let status = if output.is_closed() {
-        Status::Done
+        Status::Done.code()
     } else {
         tell_end(rt, view, &shown, &replies)
     };
@@ -116,7 +125,7 @@ fn run(rt: &HostRuntime, view: &View) -> Status {
 fn main(rt: HostRuntime) -> ExitCode {
     let status = match asked(&rt) {
         Ok(view) => run(&rt, &view),
-        Err(fault) => tell_command(&rt, &fault, ""),
+        Err(fault) => tell_command(&rt, &fault, "").code(),
     };
-    ExitCode::from(status.code())
+    ExitCode::from(status)
 }

@@ -47,5 +47,8 @@ pub enum View {
     /// `beacons`: a complete beaconing of the topology on standard input.
     Beacons(BeaconingOptions),
     /// `explain`: what is wrong with the lines on standard input that are refused.
-    Explain,
+    Explain {
+        /// Whether each finding is a JSON object, and not a line of text.
+        is_json: bool,
+    },
 }

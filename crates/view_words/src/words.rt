@@ -98,8 +98,14 @@ Example: the segments of a network of one AS, of which there are none
 static EXPLAIN_HELP: &str = "\
 Standard input has the lines of 'scionet run'. For each line that it refuses there is a line: its \
 number, the reply, the place in it, what stands there, and what is wanted or which rule is broken. \
-Lines with 'warning:' tell of members that nobody reads, and of requests for addresses that no AS \
-has. Nothing is said of lines that are right.
+Of a turn at which a router refuses the packet it is the check that failed, and the line that cut \
+the link, changed the key or altered the packet. Lines with 'warning:' tell of members that nobody \
+reads or that stand twice, of addresses that no AS has, and of requests that have no path, or one \
+over a link that is down. Nothing is said of lines that are right. The status is 3 if something was \
+found, and 0 if nothing was.
+
+With --json each finding is an object on a line, with the members column, found, line, member, \
+name, refusal, reply, text and wanted; those that are not known are null.
 
 Example: a key with an odd number of digits
   printf '%s\\n' \\
@@ -226,11 +232,14 @@ fn beacons_command<'a>(alloc: Global) -> Result<Command<'a>, AllocError> {
 /// The command `explain`.
 fn explain_command<'a>(alloc: Global) -> Result<Command<'a>, AllocError> {
     let about = "Says what is wrong with the lines on standard input that are refused";
-    Ok(
-        Command::new(alloc, "explain")
-            .about(about)
-            .after_long_help(EXPLAIN_HELP),
-    )
+    let json = Arg::new(alloc, "json")
+        .long("json")
+        .action(ArgAction::SetTrue)
+        .help("Prints each finding as a JSON object on a line");
+    Command::new(alloc, "explain")
+        .about(about)
+        .after_long_help(EXPLAIN_HELP)
+        .arg(json)
 }
 
 /// The commands of the program.
@@ -364,7 +373,8 @@ fn view_in(alloc: Global, matches: &ArgMatches<'_>) -> Result<Option<View>, Word
         return Ok(beacons(given));
     }
     if name == "explain" {
-        return Ok(Some(View::Explain));
+        let is_json = given.get_flag("json");
+        return Ok(Some(View::Explain { is_json }));
     }
     if name == "wrap" {
         return wrap(alloc, given);

@@ -1,5 +1,5 @@
 -- Why a view was not shown.
-use Rattle.std.specs.Prelude.{Option, None, Result, Ok, Err}
+use Rattle.std.specs.Prelude.{Bool, Option, Result, Ok, Err}
 use Rattle.network_core.specs.declared.fault.EventFault.{EventFault}
 use Rattle.event_lines.specs.declared.fault.RunFault.{RunFault}
 use Rattle.commands.specs.declared.fault.CommandFault.{CommandFault}
@@ -7,6 +7,8 @@ use Rattle.commands.specs.Fault.{of_run}
 use Rattle.views.specs.declared.fault.ViewFault.{ViewFault}
 use Rattle.views.specs.declared.fault.ViewFault.TheVariants.{Command, Refused}
 use Rattle.views.specs.declared.remark.Remark.{Remark}
+use Rattle.views.specs.declared.remark.Remark.TheVariants.{Found}
+use Rattle.views.specs.Remark.{if_so}
 
 -- what a command has come to, with its fault as one of a view
 abbrev pub of_command : {A : Type 0} → Result A CommandFault → Result A ViewFault
@@ -23,7 +25,7 @@ abbrev pub of_said : {A : Type 0} → Result (Result A EventFault) RunFault → 
 of_said (Ok said) = of_network said
 of_said (Err fault) = Err (Command (of_run fault))
 
--- the end of an explanation, on which there is no remark
-abbrev pub of_explained : Result (Unit {0}) RunFault → Result (Option Remark) ViewFault
-of_explained (Ok done) = Ok None
-of_explained (Err fault) = Err (Command (of_run fault))
+-- the end of an explanation, with the remark that it found something, if it did
+abbrev pub of_findings : Result Bool RunFault → Result (Option Remark) ViewFault
+of_findings (Ok found) = Ok (if_so found Found)
+of_findings (Err fault) = Err (Command (of_run fault))

@@ -2,7 +2,7 @@
 use Rattle.std.specs.Prelude.{ℕ, ◌==◌, nat_le, codes, if◌then◌else◌, List, ◌++◌, count_by, Bool, true, false, Option, Some, None}
 use Rattle.event_lines.specs.Run.{line_end}
 use Rattle.views.specs.declared.remark.Remark.{Remark}
-use Rattle.views.specs.declared.remark.Remark.TheVariants.{NoSegment, NoBeacon}
+use Rattle.views.specs.declared.remark.Remark.TheVariants.{NoSegment, NoBeacon, Found}
 
 -- the line in place of a report of a network without segments, without its end
 abbrev pub bare_text : List ℕ
@@ -14,6 +14,7 @@ remark_text NoSegment = bare_text
 remark_text NoBeacon =
     codes "no segment is made: core ASes begin beacons over their links, and no core AS of "
     ++ codes "the topology has one"
+remark_text Found = codes "something was found"
 
 -- whether the lines of a beaconing have no event but the first, which sets the second
 abbrev pub is_beaconless : List ℕ → Bool

@@ -1,5 +1,5 @@
 -- What each view shows: of which bytes of a source, and what of it the sinks got.
-use Rattle.std.specs.Prelude.{◌≡◌, ◌⊎◌, ℕ, List, Option, None, option_map, Some, slice_get, IfOk, Result, Ok, Err, String}
+use Rattle.std.specs.Prelude.{◌≡◌, ◌⊎◌, ℕ, Bool, List, Option, None, option_map, Some, slice_get, IfOk, Result, Ok, Err, String}
 use Rattle.std.specs.Io.KnownBytes.{Appends, Consumes, IsAtEnd}
 use Rattle.std.specs.String.{string_bytes}
 use Rattle.streams.specs.Streams.{AppendsFront}
@@ -23,8 +23,8 @@ use Rattle.views.specs.declared.fault.ViewFault.{ViewFault}
 use Rattle.views.specs.declared.fault.ViewFault.TheVariants as faults
 use Rattle.views.specs.declared.remark.Remark.{Remark}
 use Rattle.views.specs.declared.remark.Remark.TheVariants.{NoBeacon}
-use Rattle.views.specs.Explained.{ExplainsAll}
-use Rattle.views.specs.Fault.{of_explained, of_said}
+use Rattle.views.specs.Explained.{ExplainsAll, form_of}
+use Rattle.views.specs.Fault.{of_findings, of_said}
 use Rattle.views.specs.Network.{picture_of}
 use Rattle.views.specs.Path.{TellsPacket}
 use Rattle.views.specs.Remark.{if_so, is_beaconless}
@@ -124,6 +124,6 @@ ShowsView (Beacons options) result before after told tells held holds =
     Wrote (λ text. (input : List ℕ) × (Consumes before after input
     × AreBeaconLines options (one_line input) text))
     (λ text. if_so (is_beaconless text) NoBeacon) result held holds
-ShowsView Explain result before after told tells held holds =
-    (run : Result (Unit {0}) RunFault) × ((result ≡ of_explained run)
-    × ExplainsAll run before after held holds)
+ShowsView (Explain is_json) result before after told tells held holds =
+    (run : Result Bool RunFault) × ((result ≡ of_findings run)
+    × ExplainsAll (form_of is_json) run before after held holds)

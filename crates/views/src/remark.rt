@@ -8,6 +8,8 @@ pub enum Remark {
     NoSegment,
     /// A beaconing has no beacon: no core AS has a link.
     NoBeacon,
+    /// An explanation found something.
+    Found,
 }
 
 impl Remark {
@@ -23,6 +25,7 @@ impl Remark {
                 "no segment is made: core ASes begin beacons over their links, and no core AS of \
                  the topology has one"
             }
+            Remark::Found => "something was found",
         }
     }
 }

@@ -1,7 +1,7 @@
 //! A view of the bytes of a source, on a sink.
 
 ghost use Rattle.std.specs.Prelude.{◌≡◌};
-ghost use Rattle.views.specs.Fault.{of_command, of_explained, of_network, of_said};
+ghost use Rattle.views.specs.Fault.{of_command, of_findings, of_network, of_said};
 ghost use Rattle.views.specs.Shown.{ShowsPath, ShowsView, WritesMade};
 
 use crate::answer::answer_path;
@@ -58,12 +58,13 @@ fn of_said<A>(made: Result<Result<A, EventFault>, RunFault>) -> Result<A, ViewFa
     }
 }
 
-/// The end of an explanation, on which there is no remark.
-fn of_explained(explained: Result<(), RunFault>) -> Shown
-    ensures { result ≡ of_explained explained }
+/// The end of an explanation, with the remark that it found something, if it did.
+fn of_findings(explained: Result<bool, RunFault>) -> Shown
+    ensures { result ≡ of_findings explained }
 {
     match explained {
-        Ok(()) => Ok(None),
+        Ok(true) => Ok(Some(Remark::Found)),
+        Ok(false) => Ok(None),
         Err(fault) => Err(ViewFault::Command(CommandFault::from(fault))),
     }
 }
@@ -162,7 +163,7 @@ pub fn show<S: Source, R: Sink, K: Sink>(
         (R.held replies.old) (R.held replies.new) (K.held sink.old) (K.held sink.new) }
 {
     match view {
-        View::Explain => of_explained(explanation(alloc, source, sink)),
+        View::Explain { is_json } => of_findings(explanation(alloc, *is_json, source, sink)),
         View::Report(words) => of_said(network_report(alloc, source, replies, words, sink)),
         View::Capture(info) => show_capture(alloc, info, source, replies, sink),
         View::Beacons(options) => show_beacons(alloc, options, source, replies, sink),

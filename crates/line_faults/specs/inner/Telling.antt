@@ -1,5 +1,5 @@
 -- A run whose lines are told one after another.
-use Rattle.std.specs.Prelude.{◌⊎◌, ◌≡◌, ℕ, ◌+◌, List, [], ◌∷◌, ◌++◌, length, take, Option, Result, Ok, Err}
+use Rattle.std.specs.Prelude.{◌⊎◌, ◌≡◌, ℕ, ◌+◌, ◌||◌, Bool, false, List, [], ◌∷◌, ◌++◌, length, take, Option, Result, Ok, Err}
 use Rattle.std.specs.Io.KnownBytes.{Appends, Keeps}
 use Rattle.event_lines.specs.declared.fault.RunFault.{RunFault}
 use Rattle.event_lines.specs.declared.fault.RunFault.TheVariants as faults
@@ -9,21 +9,41 @@ use Rattle.event_lines.specs.Answers.{Stage, Unbegun, Closed, GoesOn}
 use Rattle.event_lines.specs.Replies.{RepliesToAll, stage_behind}
 use Rattle.event_lines.specs.Run.{AreLines}
 use Rattle.event_lines.specs.inner.Session.{HasMore, last_after}
+use Rattle.line_faults.specs.declared.finding.FindingForm.{FindingForm}
 use Rattle.line_faults.specs.declared.notes.Notes.{Notes}
 use Rattle.line_faults.specs.declared.telling.Telling.{Telling}
+use Rattle.line_faults.specs.Finding.{FindingValue, all_written, has_any}
 use Rattle.line_faults.specs.Explanation.{AreTold, IsTold}
 
--- how far a run is: its state, and how many of its lines were told
+-- how many lines were told, whether something was found in them, and the form of what is found
+pub record Tally : Type 0 where
+  pub number : ℕ
+  pub found : Bool
+  pub form : FindingForm
+
+abbrev pub tally_of : Notes → Tally
+tally_of notes = record { number = notes.number; found = notes.found; form = notes.form }
+
+-- no lines were told
+abbrev pub none_told : FindingForm → Tally
+none_told form = record { number = 0; found = false; form = form }
+
+-- this many lines more were told, and these are their findings
+abbrev pub with_told : Tally → (count : ℕ) (findings : List FindingValue) → Tally
+with_told old count findings =
+    record old { number = old.number + count; found = old.found || has_any findings }
+
+-- how far a run is: its state, and what was told
 pub record Place : Type 0 where
   pub stage : Stage
-  pub number : ℕ
+  pub tally : Tally
 
 -- before the first line
-abbrev pub at_begin : Place
-at_begin = record { stage = Unbegun; number = 0 }
+abbrev pub at_begin : FindingForm → Place
+at_begin form = record { stage = Unbegun; tally = none_told form }
 
 abbrev pub stands_at : LineRun → Notes → Place
-stands_at run notes = record { stage = stage_behind run; number = notes.number }
+stands_at run notes = record { stage = stage_behind run; tally = tally_of notes }
 
 -- how far a run is, and the bytes of a line whose end was not read yet
 pub record TellingValue : Type 0 where
@@ -37,40 +57,40 @@ telling_value telling = record {
 }
 
 -- before the first byte
-abbrev pub untold : TellingValue
-untold = record { place = at_begin; rest = [] }
+abbrev pub untold : FindingForm → TellingValue
+untold form = record { place = at_begin form; rest = [] }
 
--- what there is to say of the line behind this number of lines, with this reply, was added; or
--- memory ran out, and nothing was
-abbrev pub TellsReply : Result (Unit {0}) RunFault → (reply : List ℕ) (old new : ℕ)
+-- what is found in the next line, which has this reply, was added; or memory ran out, and nothing
+-- was
+abbrev pub TellsReply : Result (Unit {0}) RunFault → (reply : List ℕ) (old new : Tally)
     (held holds : Option (List ℕ)) → Type 0
-TellsReply (Ok done) reply old new held holds = (part : List ℕ)
-    × (IsTold (old + 1) reply part × (Appends held holds part × (new ≡ old + 1)))
+TellsReply (Ok done) reply old new held holds = (findings : List FindingValue)
+    × (IsTold (old.number + 1) reply findings
+    × (Appends held holds (all_written old.form findings) × (new ≡ with_told old 1 findings)))
 TellsReply (Err faults.Memory) reply old new held holds = Keeps held holds
 TellsReply (Err fault) reply old new held holds = ⊥
 
--- these lines were answered from a place on, and what there is to say of them was added to what was
+-- these lines were answered from a place on, and what is found in them was added to what was
 -- held; the run is at the second place then
 pub record TellsLines (lines : List (List ℕ)) (old new : Place) (held holds : Option (List ℕ))
     : Type 0 where
   pub replies : List (List ℕ)
-  pub part : List ℕ
+  pub findings : List FindingValue
   pub replied : RepliesToAll All old.stage lines replies new.stage
-  pub told : AreTold (old.number + 1) replies part
-  pub kept : Appends held holds part
-  pub count : new.number ≡ old.number + length replies
+  pub told : AreTold (old.tally.number + 1) replies findings
+  pub kept : Appends held holds (all_written old.tally.form findings)
+  pub count : new.tally ≡ with_told old.tally (length replies) findings
 
--- these lines were answered from a place on, and a beginning of what there is to say of them was
--- written
+-- these lines were answered from a place on, and a beginning of what is found in them was written
 pub record TellsSome (lines : List (List ℕ)) (old : Place) (held holds : Option (List ℕ))
     : Type 0 where
   pub replies : List (List ℕ)
   pub stage : Stage
-  pub part : List ℕ
+  pub findings : List FindingValue
   pub most : ℕ
   pub replied : RepliesToAll All old.stage lines replies stage
-  pub told : AreTold (old.number + 1) replies part
-  pub kept : Appends held holds (take most part)
+  pub told : AreTold (old.tally.number + 1) replies findings
+  pub kept : Appends held holds (take most (all_written old.tally.form findings))
 
 -- the run of this place, ended by a refused topology
 abbrev pub closed_at : Place → Place

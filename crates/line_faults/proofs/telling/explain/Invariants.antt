@@ -9,7 +9,7 @@ use Rattle.line_faults.proofs.telling.explain.Given as goal
 abbrev pub invariant-loop-bytes : goal.invariant-loop-bytes
 invariant-loop-bytes g l =
     record {
-      far : SoFar (g.S.Source.left l.initial.source) (g.S.Source.left l.source)
+      far : SoFar l.initial.telling.notes.form (g.S.Source.left l.initial.source) (g.S.Source.left l.source)
           (g.K.Sink.held l.initial.sink) (g.K.Sink.held l.sink) (telling_value l.telling) l.count;
       none : string_bytes l.telling.notes.text ≡ [];
       source : g.S.Source.failed l.source ≡ g.S.Source.failed l.initial.source;

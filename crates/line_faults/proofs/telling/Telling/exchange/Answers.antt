@@ -28,7 +28,7 @@ returns-clause-told g c =
 
 pub returns-clause-number : goal.returns-clause-number
 returns-clause-number g c is =
-    let same = ap (λ (v : TellingValue). v.place.number) c.in_ok-write.ensures.same in
+    let same = ap (λ (v : TellingValue). v.place.tally.number) c.in_ok-write.ensures.same in
     let few = c.tell_bytes-told.ensures.number is in omega (arith, same, few)
 
 pub returns-clause-text : goal.returns-clause-text
