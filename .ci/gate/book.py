@@ -341,10 +341,12 @@ its file. The types of refusals are in [refusals.md](refusals.md).
 VIEWS_HEAD = """## How the code's values are seen
 
 Clauses of calls speak of values of the code. These are the views of a network (`Net`), of a packet
-(`Packet`), what was sent in it (`Sent`) and where it is (`PacketInFlight`), and of a topology, by
-which `run` of `network_core`, whose clause is `Ran`, and the calls on them are read. `items` are
-those of a vector; the fields `topology`, `store` and `transit` have views of their own: a network,
-the registered segments, a packet in flight. `stored_way` is the `Way` of what is stored.
+in it (`Packet` of `network_core`: a `PacketValue`), what was sent in it (`Sent`: a `Shipment`) and
+where it is (`PacketInFlight`: a `Packet` of `forwarding`), and of a topology, by which `run` of
+`network_core`, whose clause is `Ran`, and the calls on them are read. Each is a function of the
+code's value. `items` are those of a vector; the fields `topology`, `store` and `transit` have views
+of their own: a network, the registered segments, a packet in flight. `stored_way` gives the `Way` by
+which a packet was sent, whether the code holds the way itself or that of an answer.
 """
 REST = "## Part 1: the rest of the theorem\n"
 CLAUSES = """## Part 2: how the theorem is a clause of calls

@@ -10,9 +10,10 @@ SENTENCE = """\
 # What the front says of the parts, on the page of the first one and on that of all.
 FIRST_PART = """\
 [The first hour](#part-0-the-first-hour) has the promise, the premises and what a turn does, from
-the top down. Every other term is defined in [its words](#the-words-of-part-0), but for ten, which
+the top down. Every other definition is among [its words](#the-words-of-part-0), but for ten, which
 [a sentence](#what-part-0-leaves-to-a-sentence) sums up, and the types of refusals, which
-[refusals.md](refusals.md) lists. [proved.md](proved.md#sources) has the drafts. `python3 .ci/gate
+[refusals.md](refusals.md) lists. [proved.md](proved.md#sources) has the drafts, of the control
+plane and of the data plane; scionproto is the usual program for SCION. `python3 .ci/gate
 pages` makes a page of the whole book, `out/pages/book.md`: the rest of what the theorem cites,
 crate by crate, and the contracts of the two calls that run networks.
 
@@ -71,12 +72,13 @@ LIBRARY = (
     ("Type", "`Type 0` is the type of statements and of types"),
     ("→ λ", "from premises to a conclusion, or from an argument to a value; `λ x. b` is the"
      " function that gives `b` for `x`"),
-    ("× ⊎ ↔ ¬", "both statements; one of them; each if the other; not this one. `(x : A) × B` says"
-     " that `B` holds for some `x`, and `(x : A) → B` that it does for each"),
+    ("× ⊎ ↔ ¬", "both statements, or the type of pairs `(a, b)`; one of them; each if the other; not"
+     " this one. `(x : A) × B` says that `B` holds for some `x`, and `(x : A) → B` that it does for"
+     " each"),
     ("≡ ≢", "the two are equal; they differ"),
     ("⊥ ⊤ Unit tt", "what never holds; what always does (`Unit {0}` too, and `tt` is its value)"),
     ("x.0 x.1", "the first and the second part of a pair"),
-    ("record with let in do ←", "`record { f = v }` is a record of these fields, `record x { f = v"
+    ("record let in do ←", "`record { f = v }` is a record of these fields, `record x { f = v"
      " }` is `x` with `f` changed; `let` names a value; `do` goes on with the value of each step"
      " (`x ← step`), up to the first refusal, and is short for `>>=`"),
     ("where infixl enum bool usize u8", "`where` stands before the fields or the forms; `infixl`"
@@ -146,10 +148,10 @@ FIRST_HOUR: tuple[tuple[str, tuple[tuple[str, str], ...]], ...] = (
         " a core AS and goes on to other core ASes, or from parents to children; this is its"
         " construction direction. A hop field is an"
         " AS's entry in a path, with its authenticator; an info field says how a segment is"
-        " travelled, and has the accumulator, two bytes that chain its authenticators. What"
-        " `run_lines`, the call behind `scionet run`, answers to its lines is a run (`Ran`) of the"
-        " events of these lines; part 2 of the whole book has the clause of the call that says so. A"
-        " run has a history: what happened, event by event.",
+        " travelled, and has the accumulator: two bytes that go into each authenticator and are changed"
+        " by it. `run_lines`, the call behind `scionet run`, carries out a run (`Ran`) of the events"
+        " of its lines, one a line; a clause of its contract says so, which part 2 of the whole book"
+        " has. A run has a history: what happened, event by event.",
         (
             ("network_core/Ran.Ran", "A run of these events: `network` is its topology, and `net`"
              " the network with which it ends."),
@@ -158,7 +160,8 @@ FIRST_HOUR: tuple[tuple[str, tuple[tuple[str, str], ...]], ...] = (
             ("network_core/History.Occurs", "An event happened and had this reply."),
             ("network_core/Event.EventValue", "What may happen. A decision made here: the drafts"
              " have no events. `beta` is the first accumulator of a beacon, `limit` the most paths"
-             " of an answer; byte `at` of a packet becomes the exclusive or of it and `change`."),
+             " of an answer; byte `at` of a packet becomes the exclusive or of it and `change`. The texts"
+             " of options are access lists and sequences, as lines have them."),
             ("network_core/History.IsHistory", "Each event starts from the network that the one"
              " before it left."),
             ("network_core/History.net_at", "The network before an event."),
@@ -185,7 +188,8 @@ FIRST_HOUR: tuple[tuple[str, tuple[tuple[str, str], ...]], ...] = (
             ("forwarding/Journey.turns_for", "How many turns a walk takes: one in the first AS, one"
              " in the last, and one or two in each between, by how many of its routers own the two"
              " interfaces. Decided here."),
-            ("network_core/Headline.turns_since", "How many turns the packet has had."),
+            ("network_core/Headline.turns_since", "How many turns the packet has had: its Turn"
+             " events, also those behind its delivery, which are refused."),
             ("path_verifier/Header.total_hops", "The hop fields of a path."),
         ),
     ),
@@ -197,28 +201,30 @@ FIRST_HOUR: tuple[tuple[str, tuple[tuple[str, str], ...]], ...] = (
         (
             ("network_core/Headline.Undisturbed", "All premises about one packet."),
             ("network_core/Headline.Kept", "Its segments were issued, and keys and links held"
-             " since. Decided here: the key before the one in use is still accepted."),
+             " since, but for one change of each AS's key. Decided here: the key before the one in use is"
+             " still accepted."),
             ("network_core/Headline.AreIssuedFrom", "Each piece is of a segment that the network"
              " issued before the Send."),
             ("network_core/History.IssuedIn", "A segment was made by events of the history (control"
              " plane draft, path construction and registration)."),
             ("network_core/Headline.IsDone", "An event happened and was not refused."),
             ("forwarding/Sound.AvoidsAs", "The AS is not on the piece."),
-            ("forwarding/Sound.AvoidsLink", "No link between two ASes of the piece ends at this"
-             " interface."),
+            ("forwarding/Sound.AvoidsLink", "No link that the piece travels ends at this interface,"
+             " of this `number`."),
             ("path_verifier/Accepted.IsExpiry", "The earliest expiry of the travelled hops (data"
              " plane draft: hop expiry; counted in half seconds by a decision made here)."),
         ),
     ),
     (
-        "The path of a Send is one that the verifier accepts: it keeps each of these rules. There"
-        " is one rule for each fault, and a Send is refused by the fault whose rule is the first to"
-        " be broken.",
+        "The path of a Send that is done is one that the verifier accepts: it keeps each of these"
+        " rules. Each fault has a rule, and the verifier refuses by the fault whose rule is the"
+        " first to be broken, as [refusals.md](refusals.md) numbers them. No rule asks who issued a"
+        " segment: that is a premise.",
         (
             ("path_verifier/Accepted.IsAccepted", "The path may be sent."),
             ("path_verifier/Accepted.Keeps", "The rules (data plane draft, segment combinations,"
-             " without peering links; the policies are scionproto's). What `AclDenied` tells besides"
-             " is left out."),
+             " without its links between peers; the policies are scionproto's). What `AclDenied` tells"
+             " besides is left out."),
             ("path_verifier/Accepted.Request", "What is judged: the pieces, the header, the ends,"
              " the current second and the policy's rules."),
             ("path_verifier/Piece.PieceValue", "A piece of a segment, travelled one way or the"
@@ -232,7 +238,7 @@ FIRST_HOUR: tuple[tuple[str, tuple[tuple[str, str], ...]], ...] = (
     (
         "And this is what a turn does: the router that has the packet judges its bytes, and the"
         " packet goes where the router's outcome says. A hop is noted as passed by these outcomes,"
-        " and not by the path in the packet.",
+        " and not by the path in the packet. `Step` is one event, and a router's step is its turn.",
         (
             ("network_core/Step.turns", "The network after one turn of a packet."),
             ("network_core/Step.Leads", "An event that is done gives its reply and its network; a"
@@ -276,8 +282,8 @@ OUTSIDE = (
      " the first refusal, or the outcome and the new bytes. [router.md](router.md) lists them."),
     ("path_verifier/Header.header_of", "The header that these pieces make, by the draft's layout,"
      " with the packet at its first hop field."),
-    ("forwarding/OnPath.arrived_with", "The packet as it arrives: the header at the end of all"
-     " pieces, the payload as it was sent, the whole walk passed."),
+    ("forwarding/OnPath.arrived_with", "The packet as it arrives: the header, at its last info and"
+     " hop field, the payload as it was sent, the whole walk passed."),
 )
 
 # The most definitions that part 0 may leave to a sentence.
