@@ -1,7 +1,7 @@
 //! What stands at a place of a line, and what is wanted there.
 
 use crate::form::Form;
-use crate::located::{Inward, number_from, start_of};
+use crate::located::{Inward, item_starts, number_from, start_of};
 use crate::member::{Member, first_misfit};
 use crate::said::Said;
 use serde_json::Value;
@@ -127,16 +127,39 @@ impl<'a> fmt::Display for EntryAt<'a> {
     }
 }
 
+/// The steps that lead from the line to the access list at a place.
+fn steps_to_list<'a>(alloc: Global, place: Place<'a>) -> Result<Vec<Inward<'a>>, AllocError> {
+    let mut steps = place.steps(alloc)?;
+    steps.push(Inward::Member("acl"))?;
+    Ok(steps)
+}
+
 /// Adds the entry of this number of the access list at a place, and notes at which column it is.
 pub(crate) fn push_entry(
     why: &mut Said,
     place: Place<'_>,
     number: usize,
 ) -> Result<(), AllocError> {
-    let mut steps = place.steps(*why.text.allocator())?;
-    steps.push(Inward::Member("acl"))?;
+    let mut steps = steps_to_list(*why.text.allocator(), place)?;
     steps.push(Inward::Item(number))?;
     note_column(why, place, &steps)?;
+    why.push_member(&EntryAt(place, number))
+}
+
+/// Where the entries of the access list at a place begin.
+pub(crate) fn entry_starts(alloc: Global, place: Place<'_>) -> Result<Vec<usize>, AllocError> {
+    let steps = steps_to_list(alloc, place)?;
+    item_starts(alloc, place.line, &steps)
+}
+
+/// Adds the entry of this number of the access list at a place, which begins where it is said.
+pub(crate) fn push_entry_from(
+    why: &mut Said,
+    place: Place<'_>,
+    number: usize,
+    start: Option<usize>,
+) -> Result<(), AllocError> {
+    why.column = start.map(|start| start.saturating_add(1));
     why.push_member(&EntryAt(place, number))
 }
 

@@ -32,6 +32,15 @@ fn is_at(text: &str, open: &[Level], steps: &[Inward<'_>]) -> bool {
             .all(|(level, step)| is_step(text, level, *step))
 }
 
+/// The lists and objects around a value that begins with the last byte, if one does.
+fn levels_around(reading: &Reading, step: Step) -> Option<&[Level]> {
+    match step {
+        Step::Value => Some(reading.open()),
+        Step::Opens => reading.around(),
+        Step::Name | Step::Closes | Step::Inside => None,
+    }
+}
+
 /// Where the value begins to which these steps lead from the whole line; of two members with one
 /// name that is the last.
 pub(crate) fn start_of(
@@ -42,16 +51,41 @@ pub(crate) fn start_of(
     let mut reading = Reading::new(alloc);
     let mut start = None;
     for (at, byte) in text.as_bytes().iter().enumerate() {
-        let around = match reading.read(at, *byte)? {
-            Step::Value => Some(reading.open()),
-            Step::Opens => reading.around(),
-            Step::Name | Step::Closes | Step::Inside => None,
-        };
-        if around.is_some_and(|open| is_at(text, open, steps)) {
+        let step = reading.read(at, *byte)?;
+        if levels_around(&reading, step).is_some_and(|open| is_at(text, open, steps)) {
             start = Some(at);
         }
     }
     Ok(start)
+}
+
+/// The place of a value among the items of the list to which these steps lead, if it is in it.
+fn number_in(text: &str, open: &[Level], steps: &[Inward<'_>]) -> Option<usize> {
+    let (list, around) = open.split_last()?;
+    if list.is_object || !is_at(text, around, steps) {
+        return None;
+    }
+    Some(list.number)
+}
+
+/// Where the items of the list begin to which these steps lead from the whole line; of two members
+/// with one name that is the last. The line is read once.
+pub(crate) fn item_starts(
+    alloc: Global,
+    text: &str,
+    steps: &[Inward<'_>],
+) -> Result<Vec<usize>, AllocError> {
+    let mut reading = Reading::new(alloc);
+    let mut starts = Vec::new(alloc);
+    for (at, byte) in text.as_bytes().iter().enumerate() {
+        let step = reading.read(at, *byte)?;
+        let number = levels_around(&reading, step).and_then(|open| number_in(text, open, steps));
+        if let Some(number) = number {
+            starts.truncate(number);
+            starts.push(at)?;
+        }
+    }
+    Ok(starts)
 }
 
 /// Whether a byte is one of numbers.

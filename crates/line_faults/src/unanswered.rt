@@ -4,7 +4,7 @@
 
 ghost use Rattle.line_faults.specs.inner.Denying.{DeniesWalk};
 
-use crate::found::{Place, push_entry, push_place};
+use crate::found::{Place, entry_starts, push_entry, push_entry_from, push_place};
 use crate::history::{address_at, word_of};
 use crate::refused::{Context, is_down, push_link};
 use crate::said::Said;
@@ -72,20 +72,48 @@ fn add_unlisted_entries(
     }
     for (number, option) in options_of(alloc, line)?.iter().enumerate() {
         let place = option_place(line, request, number);
-        let entries = option.policy.acl().map_or(&[][..], |list| list.entries());
-        for (number, entry) in entries.iter().enumerate() {
-            let Some(HopPred { ia, .. }) = entry.pred else {
-                continue;
-            };
-            if ia.is_wildcard() || topology.as_info(ia).is_ok() {
-                continue;
+        let unlisted = unlisted_entries(alloc, topology, &option.policy)?;
+        add_unlisted_of_list(alloc, warnings, place, &unlisted)?;
+    }
+    Ok(())
+}
+
+/// The entries of a policy's list that are for an AS which no topology lists, each with its place
+/// in the list.
+fn unlisted_entries(
+    alloc: Global,
+    topology: &Topology,
+    policy: &Policy<Global>,
+) -> Result<Vec<(usize, IsdAs)>, AllocError> {
+    let mut unlisted = Vec::new(alloc);
+    let entries = policy.acl().map_or(&[][..], |list| list.entries());
+    for (number, entry) in entries.iter().enumerate() {
+        if let Some(HopPred { ia, .. }) = entry.pred {
+            if !ia.is_wildcard() && topology.as_info(ia).is_err() {
+                unlisted.push((number, ia))?;
             }
-            let mut warning = Said::new(alloc);
-            push_entry(&mut warning, place, number)?;
-            warning.push_found(&ia)?;
-            warning.text.push_str(": the topology has no such AS")?;
-            warnings.push(warning)?;
         }
+    }
+    Ok(unlisted)
+}
+
+/// Adds a warning for each of these entries of the list at a place.
+fn add_unlisted_of_list(
+    alloc: Global,
+    warnings: &mut Vec<Said>,
+    place: Place<'_>,
+    unlisted: &[(usize, IsdAs)],
+) -> Result<(), AllocError> {
+    if unlisted.is_empty() {
+        return Ok(());
+    }
+    let starts = entry_starts(alloc, place)?;
+    for (number, ia) in unlisted {
+        let mut warning = Said::new(alloc);
+        push_entry_from(&mut warning, place, *number, starts.get(*number).copied())?;
+        warning.push_found(ia)?;
+        warning.text.push_str(": the topology has no such AS")?;
+        warnings.push(warning)?;
     }
     Ok(())
 }

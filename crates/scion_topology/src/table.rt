@@ -10,7 +10,10 @@ use std::alloc::{AllocError, Global};
 use std::collections::BTreeMap;
 use std::marker::Model;
 
-/// The interfaces of an AS; a tree finds each by its number. In clauses the value is their list.
+/// The most interfaces that are looked at one after another, which takes less than a tree does.
+const FEW: usize = 8;
+
+/// The interfaces of an AS; where there are many, a tree finds each by its number. In clauses the value is their list.
 ///
 /// If two interfaces have the same number, the first is found.
 #[derive(Drop)]
@@ -67,6 +70,9 @@ impl InterfaceTable {
     pub(crate) fn get(&self, number: IfId) -> Option<&IfEntry>
         ensures { option_copied result ≡ interface_in self.now number }
     {
+        if self.entries.len() <= FEW {
+            return self.entries.iter().find(|entry| entry.number == number);
+        }
         match self.place(number) {
             Some(place) => Some(&self.entries[place]),
             None => None,
