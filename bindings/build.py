@@ -112,7 +112,7 @@ def over_libraries(uses, name, path, *target):
         words += ["-L", f"dependency={rlib(it)}"]
     words += ["--antt-project", os.path.join(kit(), "rattle", "logic", "antt-project.json")]
     words += ["--logic-built", os.path.join(kit(), "logic_built"), "--links", f"{name}="]
-    words += ["--jobs", "2", "--crate-type", "staticlib"]
+    words += ["--jobs", str(os.cpu_count() or 2), "--crate-type", "staticlib"]
     words += ["--toolchain", os.path.join(kit(), "toolchain"), "--backend", "llvm"]
     return [*words, *target, "-o", path]
 

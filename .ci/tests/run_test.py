@@ -4,6 +4,7 @@ import contextlib
 import io
 import os
 import sys
+import time
 import unittest
 from collections.abc import Sequence
 from pathlib import Path
@@ -13,7 +14,9 @@ from gate import children, run
 from gate.__main__ import checks
 from gate.machine import Machine, skipped
 from gate.minutes import Minutes
-from gate.run import STEPS, Step, run_all
+from gate.run import STAGES, Step, run_all
+
+STEPS = [step for stage in STAGES for lane in stage for step in lane]
 
 
 class Python(Step):
@@ -27,7 +30,7 @@ class Python(Step):
 def ended(steps: Sequence[Step], is_strict: bool = False) -> tuple[str, int]:
     """How these steps end; what they print is not shown."""
     with contextlib.redirect_stdout(io.StringIO()):
-        return run_all(steps, Minutes(os.getpid()), is_strict)
+        return run_all([[steps]], Minutes(os.getpid()), is_strict)
 
 
 WELL, NODE = Python("print('a: 3 wrong of 3')"), Python("print('b: 1; skipped: node, zsh')")
@@ -39,7 +42,7 @@ class Runs(unittest.TestCase):
 
     def test_what_is_printed(self) -> None:
         with contextlib.redirect_stdout(io.StringIO()) as out:
-            run_all([Python("print('a: 1')"), Python("import time; time.sleep(1)")],
+            run_all([[[Python("print('a: 1')"), Python("import time; time.sleep(1)")]]],
                     Minutes(os.getpid()), is_strict=False)
         first, second, third = out.getvalue().splitlines()
         self.assertEqual(first, "a: 1")
@@ -62,6 +65,29 @@ class Runs(unittest.TestCase):
         self.assertEqual(status, 1)
         self.assertRegex(line, "^gate: step 2 of 3, .*: status 3$")
 
+    def test_side_by_side(self) -> None:
+        """Lanes run at the same time, and what follows them begins behind both."""
+        waits = [Python(f"import time; time.sleep(1); print('{it}: 1')") for it in "ab"]
+        with contextlib.redirect_stdout(io.StringIO()) as out:
+            begun = time.monotonic()
+            ended = run_all([[[waits[0]], [waits[1]]], [[Python("print('c: 1')")]]],
+                            Minutes(os.getpid()), is_strict=False)
+            took = time.monotonic() - begun
+        self.assertEqual(ended, ("gate: 3 steps, 0 failed", 0))
+        self.assertLess(took, 1.9)
+        self.assertEqual(out.getvalue().splitlines()[-2], "c: 1")
+
+    def test_a_fault_in_a_lane(self) -> None:
+        """The fault is told by its number; no lane goes on, and no later stage begins."""
+        late = [Python("import time; time.sleep(1)"), Python("print('not run')")]
+        stages = [[[NODE, Python("import sys; sys.exit(3)")], late], [[WELL]]]
+        with contextlib.redirect_stdout(io.StringIO()) as out:
+            line, status = run_all(stages, Minutes(os.getpid()), is_strict=False)
+        self.assertEqual(status, 1)
+        self.assertRegex(line, "^gate: step 2 of 5, .*: status 3$")
+        self.assertNotIn("not run", out.getvalue())
+        self.assertNotIn("a: 3 wrong of 3", out.getvalue())
+
     def test_no_end(self) -> None:
         with mock.patch.object(run, "MINUTE", 0.1):
             line, status = ended([Python("import time; time.sleep(60)", minutes=1)])
@@ -72,7 +98,7 @@ class Runs(unittest.TestCase):
         """Each step is a check, or `rt`; and no check is left out but those that others start."""
         named = {it.check for it in STEPS}
         self.assertEqual(named - {"rt"} - {*checks()}, set())
-        others = {"answers", "calls_growth", "host_numbers", "packets", "run", "udp", "unproved"}
+        others = {"answers", "by_hand", "calls_growth", "host_numbers", "packets", "run", "udp", "unproved"}
         self.assertEqual({*checks()} - named, others)
 
     def test_words_of_steps(self) -> None:

@@ -86,8 +86,9 @@ pub record IsAnswerable (net : NetValue) (p : ℕ) (sent : Shipment) (payload : 
 
 -- the guarantees for the packet that event number `number` sent. Its path was accepted. After `k`
 -- events, if the packet was undisturbed so far, it is forwarded as `IsForwarded` says; and it is
--- delivered once it has had two turns for each hop field. Once it is delivered, whatever happens
--- then, it stays as it is, and can be answered with up to 1,024 bytes.
+-- delivered once it has had two turns for each hop field. From then on it stays as it is, whatever
+-- happens; and a payload of up to 1,024 bytes has a way back, which is accepted until the path
+-- expires.
 pub record Headline (start : NetValue) (history : List EventRecord) (number p : ℕ) (sent : Shipment)
     : Type 0 where
   pub accepted : IsAccepted (asked_at (net_at start history number).moment sent.way)
