@@ -3,11 +3,11 @@
 First it compares their numbers with the tables of the crates (`host_numbers.py`). Then it builds
 the static libraries over what `rt ci` has proved, since that leaves none, and runs the tours, side
 by side: in C by each compiler that is there (the kit's clang is), in C++, in Python, as a package
-too, in Rust and in JavaScript. Their answers are held to what the rules of routers and of paths say. By gcc and
-clang, what is written in C runs once more with checks of memory (`sanitized.py`). `answers.py`
-compares random requests for paths with a search that tries every list of pieces, and `packets.py`
-whole packets with a second reader of them. The commands by which bindings/README.md links are run
-as they stand.
+too, in Rust and in JavaScript. Their answers are held to what the rules of routers and of paths
+say. By gcc and clang, what is written in C runs once more with checks of memory (`sanitized.py`).
+`answers.py` compares random requests for paths with a search that tries every list of pieces, and
+`packets.py` whole packets with a second reader of them. The commands by which bindings/README.md
+links are run as they stand.
 
 What is not on the machine is told, and left out; but without a compiler for C nothing would be
 tested, so that the status is 1 then, unless the word is `--without-compiler`. It is 1 too where an
@@ -214,8 +214,8 @@ class Gate:
 
 
 def prove(has_node: bool) -> None:
-    """Proves and builds both libraries side by side, and the module for JavaScript behind the first,
-    which it has to be built over."""
+    """Proves and builds both libraries side by side, and the module for JavaScript behind the
+    first."""
     os.makedirs(build.OUT, exist_ok=True)
 
     def router() -> None:

@@ -7,7 +7,6 @@ there, it also has all of these laid out: no line may lie upon another one. The 
 numbers of pictures and of wrong ones; the status is 1 where one is wrong."""
 import collections
 import html
-import itertools
 import json
 import random
 import re
@@ -140,12 +139,13 @@ class Network:
 
     def distances(self, start: Iterable[str]) -> dict[str, int]:
         """How many links lead to each AS from the nearest of these."""
-        found, front = {}, set(start)
-        for distance in itertools.count():
+        found: dict[str, int] = {}
+        front, distance = set(start), 0
+        while front:
             found |= dict.fromkeys(front, distance)
             front = {it for ia in front for it in self.beside[ia]} - found.keys()
-            if not front:
-                return found
+            distance += 1
+        return found
 
     def parts(self, chance: random.Random) -> Iterable[tuple[list[str], set[str]]]:
         """Words of `network`, and the ASes of the part that they name."""

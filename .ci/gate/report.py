@@ -326,8 +326,8 @@ def refusals() -> Iterator[str]:
         found = done.stderr.decode()
         if done.returncode != status or done.stdout or found != text:
             yield f"{words}: status {done.returncode}, {found!r}, not {text!r}"
-    if (found := ran([VIEW, "report"], lines.splitlines()[0])) != [BARE]:
-        yield f"a network without segments: {found}"
+    if (bare := ran([VIEW, "report"], lines.splitlines()[0])) != [BARE]:
+        yield f"a network without segments: {bare}"
 
 
 def main(words: Sequence[str]) -> int:

@@ -78,7 +78,7 @@ class Executables(unittest.TestCase):
             return "", ""
 
         def ended(*steps: Step) -> tuple[str, int]:
-            return run_all(steps, Minutes(os.getpid()), is_strict=False)
+            return run_all([[steps]], Minutes(os.getpid()), is_strict=False)
 
         with mock.patch.object(run, "followed", followed):
             line, status = ended(Step("book"), Step(BUILDS, ("ci",)))

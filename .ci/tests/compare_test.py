@@ -15,7 +15,7 @@ LINK = {"a": {"ia": "1-1", "if": 1}, "b": {"ia": "1-2", "if": 2}}
 
 def pair(source: str, destination: str, paths: int, **members: Any) -> dict[str, Any]:
     """What a report says of a pair."""
-    none = None if not paths or members.get("more") else []
+    none: list[Any] | None = None if not paths or members.get("more") else []
     one: dict[str, Any] = {"from": source, "to": destination, "paths": paths, "more": False}
     one |= {"hops": None, "until": None, "survives": None, "needs": none, "through": none}
     return one | members
@@ -55,14 +55,17 @@ class Compare(unittest.TestCase):
         self.assertEqual(self.compare(before, after), (1, lines))
 
     def test_no_report(self) -> None:
-        for wrong in ([7], [{"from": "1-1"}], [pair("1-1", "1-2", 1, needs=[7])]):
+        rows: list[list[Any]] = [[7], [{"from": "1-1"}], [pair("1-1", "1-2", 1, needs=[7])]]
+        for wrong in rows:
             with self.subTest(wrong):
                 self.assertEqual(self.compare(wrong, []), (2, []))
 
     def test_empty(self) -> None:
         """A report without a pair is none, as one that was cut off before its first line."""
         report = [pair("1-1", "1-2", 1, survives=0)]
-        for before, after in ((report, []), ([], report), ([{"link": LINK, "pairs": 1}], report)):
+        link: list[Any] = [{"link": LINK, "pairs": 1}]
+        rows: list[tuple[list[Any], list[Any]]] = [(report, []), ([], report), (link, report)]
+        for before, after in rows:
             self.assertEqual(self.compare(before, after), (2, []))
 
     def test_other_pairs(self) -> None:

@@ -1,9 +1,12 @@
 """What the check of refused words of the views tells of another answer."""
 import unittest
+from typing import Any
 
 from gate.view_words import difference
 
-ROW = {"args": ["report", "--from", ""], "stdin": "", "status": 2, "stderr": "scionet_view: no 1"}
+ROW: dict[str, Any] = {
+    "args": ["report", "--from", ""], "stdin": "", "status": 2, "stderr": "scionet_view: no 1",
+}
 
 
 class ViewWords(unittest.TestCase):
