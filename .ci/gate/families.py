@@ -367,6 +367,15 @@ def all_denied(size: int) -> str:
     return row([request] * size)
 
 
+def unlisted_entries(size: int) -> str:
+    """Ten requests with so many options, each with a full access list for ASes that are not there."""
+    there = [address(3 + number) for number in range(ENTRIES - 1)]
+    options = [{"weight": number, "acl": [*(f"- {it}" for it in there), "+"]}
+               for number in range(size)]
+    request = event("ask", src=address(2), dst=address(0), limit=1, options=options)
+    return row([request] * 10)
+
+
 def behind_a_cut(size: int) -> str:
     """So many packets that are sent behind a cut and are refused at their first turn."""
     cut = event("cut", ia=address(2), **{"if": 1})
