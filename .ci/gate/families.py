@@ -368,12 +368,11 @@ def all_denied(size: int) -> str:
 
 
 def unlisted_entries(size: int) -> str:
-    """Ten requests with so many options, each with a full access list for ASes that are not there."""
-    there = [address(3 + number) for number in range(ENTRIES - 1)]
-    options = [{"weight": number, "acl": [*(f"- {it}" for it in there), "+"]}
-               for number in range(size)]
+    """Twenty requests with all options, each with so many entries for ASes that are not there."""
+    entries = [*(f"- {address(3 + number)}" for number in range(size)), "+"]
+    options = [{"weight": number, "acl": entries} for number in range(OPTIONS)]
     request = event("ask", src=address(2), dst=address(0), limit=1, options=options)
-    return row([request] * 10)
+    return row([request] * 20)
 
 
 def behind_a_cut(size: int) -> str:

@@ -177,7 +177,7 @@ TEXTS = [
          "no 140 BadLine: the line: found no text", Bound(LINEAR, 1.8, 10)),
     Work("explaining requests that are denied", EXPLAIN, families.all_denied, (20_000, 40_000),
          "warning: acl[0]: no path: it denies", Bound(LINEAR, 1.4, 20)),
-    Work("explaining entries for no AS", EXPLAIN, families.unlisted_entries, (8, 16),
+    Work("explaining entries for no AS", EXPLAIN, families.unlisted_entries, (127, 255),
          "acl[254]: found 1-258: the topology has no such AS", Bound(LINEAR, 1.6, 60)),
     Work("explaining packets that are refused", EXPLAIN, families.behind_a_cut, (20_000, 40_000),
          "refused 100 LinkDown: packet:", Bound(LINEAR, 1.4, 60)),
