@@ -117,10 +117,10 @@ def over_libraries(uses, name, path, *target):
     return [*words, *target, "-o", path]
 
 
-def prove(libraries):
-    """Proves and builds static libraries, unless they stand and nothing has changed since. `rt ci`
-    leaves the libraries below without the stamp by which `rt lib` knows them, so that this would
-    prove each anew."""
+def prove(libraries, front=()):
+    """Proves and builds static libraries, unless they stand and nothing has changed since, with
+    these words in front of the command. `rt ci` leaves the libraries below without the stamp by
+    which `rt lib` knows them, so that this would prove each anew."""
     uses = used()
     for name in libraries:
         path = archive(name)
@@ -130,7 +130,7 @@ def prove(libraries):
         is_known = any(os.path.exists(f"{rlib(it)}/stamp") for it in below(uses, name))
         words = over_libraries(uses, name, path) if is_built and not is_known else ["rt", "lib"]
         os.makedirs(os.path.dirname(path), exist_ok=True)
-        run(words, os.path.join(TOP, "crates", name))
+        run([*front, *words], os.path.join(TOP, "crates", name))
 
 
 def gather(libraries):
@@ -139,15 +139,16 @@ def gather(libraries):
         shutil.copy2(path, OUT)
 
 
-def build_wasm(path):
-    """Proves the router's library for WebAssembly, and links the module, unless it is current."""
+def build_wasm(path, front=()):
+    """Proves the router's library for WebAssembly, and links the module, unless it is current; with
+    these words in front of the command that proves."""
     uses, (name,) = used(), ROUTER
     prove(ROUTER)
     if is_current(uses, name, path):
         return
     part = f"{path}.a"
     words = over_libraries(uses, name, part, "--target", WASM)
-    run(words, os.path.join(TOP, "crates", name))
+    run([*front, *words], os.path.join(TOP, "crates", name))
     link = [os.path.join(kit(), "bin", "rattle-link"), "--target", WASM]
     link += ["--toolchain", os.path.join(kit(), "toolchain"), "--memory", str(WASM_MEMORY)]
     run([*link, "-o", path, part])

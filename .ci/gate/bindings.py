@@ -42,6 +42,9 @@ NODE = ["node", "--experimental-wasm-memory64"]
 VIEW = "crates/scionet_view/out/scionet_view"
 MODULE = os.path.join(build.OUT, "scion.wasm")
 
+# The words in front of a command that leaves the processors to others.
+YIELDING = ("nice", "-n", "10")
+
 # Turns of routers on whole packets.
 PACKETS = "cases/packets/turns.tsv"
 
@@ -90,9 +93,9 @@ class Gate:
         yield lambda: self.run(f"answers over {name}", [*GATE, "answers", shared])
         yield lambda: self.run(f"whole packets in Python over {name}", [*GATE, "packets", shared])
 
-    def growth(self, name: str, shared: str) -> None:
+    def growth(self, name: str, shared: str) -> Task:
         """How the cost of calls grows, which is held to seconds."""
-        self.run(f"growth of calls over {name}", [*GATE, "calls_growth", shared])
+        return lambda: self.run(f"growth of calls over {name}", [*GATE, "calls_growth", shared])
 
     def written_in_c(self, name: str, compiler: Compiler, flags: Sequence[str]) -> Iterator[Task]:
         """The tour, whole packets and the routers as processes, by one compiler for C."""
@@ -215,13 +218,13 @@ class Gate:
 
 def prove(has_node: bool) -> None:
     """Proves and builds both libraries side by side, and the module for JavaScript behind the
-    first."""
+    first. The second library takes longest, so the processors are its own where it wants them."""
     os.makedirs(build.OUT, exist_ok=True)
 
     def router() -> None:
-        build.prove(build.ROUTER)
+        build.prove(build.ROUTER, YIELDING)
         if has_node:
-            build.build_wasm(MODULE)
+            build.build_wasm(MODULE, YIELDING)
 
     side_by_side([router, lambda: build.prove(build.BOTH[1:])])
 
@@ -251,10 +254,8 @@ def main(words: Sequence[str]) -> int:
         gate = Gate(room, machine)
         objects = [gate.shared(number, it) for number, it in enumerate(compilers)]
         side_by_side(gate.tasks(objects, compilers))
-        # (what the page does writes where others read, and what is held to seconds runs alone)
-        gate.documented()
-        for name, shared in objects:
-            gate.growth(name, shared)
+        # (the page writes where others read, and what is held to seconds wants processors)
+        side_by_side([gate.documented, *(gate.growth(*it) for it in objects)])
         is_well = gate.is_well and is_well
     print(machine.told(f"bindings: {gate.count} commands, all well: {is_well}"))
     return 0 if is_well else 1

@@ -13,6 +13,7 @@ from gate.works import WORKS
 
 NUMBER_WORDS = {
     "five": 5, "eight": 8, "nine": 9, "ten": 10, "thirteen": 13, "sixty": 60, "seventy": 70,
+    "eighty": 80,
 }
 
 # How far a rounded figure, as 'some 120', may be from what is there.
