@@ -48,7 +48,8 @@ def main(words: Sequence[str]) -> int:
     crates = reader_of.parse_args(words).crates or there
     for crate in crates:
         if crate not in there:
-            reader_of.error(f"no edits of {crate} are tried by hand: there are some of {', '.join(there)}")
+            reader_of.error(f"no edits of {crate} are tried by hand; there are some of "
+                            + ", ".join(there))
     with tempfile.TemporaryDirectory() as folder:
         copy_into(Path(folder), crates)
         refused = set(REFUSED.findall(tried(Path(folder), crates)))

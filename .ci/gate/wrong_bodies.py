@@ -79,7 +79,8 @@ def table(edits: Iterable[Edit], what: str) -> Iterator[str]:
 
 def all_edits() -> list[Edit]:
     """The edits of all crates, by crate and name."""
-    paths = [it for folder in (IN_GATE, BY_HAND) for it in Path("crates").glob(f"*/{folder}/*.edit")]
+    folders = (IN_GATE, BY_HAND)
+    paths = [it for name in folders for it in Path("crates").glob(f"*/{name}/*.edit")]
     return [Edit(it) for it in sorted(paths, key=lambda path: (path.parts[1], path.stem))]
 
 

@@ -23,7 +23,7 @@ class ByHand(unittest.TestCase):
         self.assertEqual(REFUSED.findall(SAID), [("isd_as", "one"), ("isd_as", "two")])
 
     def test_the_copy(self) -> None:
-        """It has the edits of the crates that are named among those that are tried, and no others."""
+        """It has the edits of the crates that are named, and no others, where they are tried."""
         with tempfile.TemporaryDirectory() as folder:
             copy_into(Path(folder), ["isd_as"])
             edits = {it.parts[-3:] for it in Path(folder).glob("crates/*/must-fail*/*.edit")}

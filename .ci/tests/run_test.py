@@ -98,7 +98,8 @@ class Runs(unittest.TestCase):
         """Each step is a check, or `rt`; and no check is left out but those that others start."""
         named = {it.check for it in STEPS}
         self.assertEqual(named - {"rt"} - {*checks()}, set())
-        others = {"answers", "by_hand", "calls_growth", "host_numbers", "packets", "run", "udp", "unproved"}
+        others = {"answers", "by_hand", "calls_growth", "host_numbers", "packets", "run", "udp",
+                  "unproved"}
         self.assertEqual({*checks()} - named, others)
 
     def test_words_of_steps(self) -> None:
