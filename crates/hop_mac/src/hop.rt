@@ -20,6 +20,7 @@ pub struct HopInput {
 
 impl HopInput {
     /// The 16 bytes over which the authenticator is computed, as [`mac_input`] returns them.
+    #[inline(always)]
     pub fn bytes(&self) -> [u8; 16]
         ensures { result
             ≡ input_of self.now.beta self.now.timestamp self.now.exp_time self.now.cons_ingress
