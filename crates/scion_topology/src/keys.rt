@@ -62,6 +62,8 @@ impl Key {
     }
 
     /// The authenticator of a hop under this key.
+    // Inlined, as `RouterView::authenticates`.
+    #[inline(always)]
     pub fn hop_mac(&self, hop: &HopInput) -> [u8; 6]
         ensures { result
             ≡ authenticator self.now hop.now.beta hop.now.timestamp hop.now.exp_time

@@ -10,10 +10,11 @@ use std::alloc::{AllocError, Global};
 use std::collections::BTreeMap;
 use std::marker::Model;
 
-/// The most interfaces that are looked at one after another, which takes less than a tree does.
+/// Up to this many interfaces are looked at one after another; with more, a tree finds each.
 const FEW: usize = 8;
 
-/// The interfaces of an AS; where there are many, a tree finds each by its number. In clauses the value is their list.
+/// The interfaces of an AS, each of which is found by its number. In clauses the value is their
+/// list.
 ///
 /// If two interfaces have the same number, the first is found.
 #[derive(Drop)]
@@ -67,6 +68,7 @@ impl InterfaceTable {
     }
 
     /// The interface of this number.
+    #[inline(always)]
     pub(crate) fn get(&self, number: IfId) -> Option<&IfEntry>
         ensures { option_copied result ≡ interface_in self.now number }
     {
@@ -83,6 +85,9 @@ impl InterfaceTable {
     pub(crate) fn place(&self, number: IfId) -> Option<usize>
         ensures { result ≡ place_in_table self.now number }
     {
+        if self.entries.len() <= FEW {
+            return self.entries.iter().position(|entry| entry.number == number);
+        }
         self.places.get(&number).copied()
     }
 
