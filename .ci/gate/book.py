@@ -23,7 +23,7 @@ REFUSALS = re.compile(r"(?:Event|Verify|Option|Topology|Header)Fault|Refusal")
 # How values of the code are seen in clauses.
 VIEWS = (
     ("network_core", "net", "Net"), ("network_core", "packet", "Packet"),
-    ("network_core", "packet", "Sent"), ("forwarding", "in_flight", "PacketInFlight"),
+    ("network_core", "sent", "Sent"), ("forwarding", "in_flight", "PacketInFlight"),
     ("scion_topology", "topology", "Topology"),
 )
 VIEW = r"^impl Model for NAME \{\n(?:.*\n)*?    ghost view = ((?:.*\n)*?.*\};)$"
@@ -345,8 +345,8 @@ in it (`Packet` of `network_core`: a `PacketValue`), what was sent in it (`Sent`
 where it is (`PacketInFlight`: a `Packet` of `forwarding`), and of a topology, by which `run` of
 `network_core`, whose clause is `Ran`, and the calls on them are read. Each is a function of the
 code's value. `items` are those of a vector; the fields `topology`, `store` and `transit` have views
-of their own: a network, the registered segments, a packet in flight. `stored_way` gives the `Way` by
-which a packet was sent, whether the code holds the way itself or that of an answer.
+of their own: a network, the registered segments, a packet in flight. `way_numbered` gives the
+`Way` by which a packet was sent: its path has this number in an answer, or is alone in one.
 """
 REST = "## Part 1: the rest of the theorem\n"
 CLAUSES = """## Part 2: how the theorem is a clause of calls

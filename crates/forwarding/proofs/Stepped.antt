@@ -1,5 +1,5 @@
 -- A packet is where the result of its router's step put it.
-use Rattle.std.proofs.Common.{◌≡◌, List, ℕ, Result, Ok, Err, IfOk, IfErr}
+use Rattle.std.proofs.Common.{◌≡◌, List, ℕ, Option, None, Result, Ok, Err, IfOk, IfErr}
 use Rattle.scion_topology.specs.Network.{Network}
 use Rattle.policy_expr.specs.declared.hop.WalkHop.{WalkHop}
 use Rattle.router_step.specs.declared.outcome.Outcome.{Outcome}
@@ -10,14 +10,14 @@ use Rattle.forwarding.specs.declared.location.PacketLocation.{PacketLocation}
 use Rattle.forwarding.specs.declared.location.PacketLocation.TheVariants as places
 use Rattle.forwarding.specs.declared.reply.TurnReply.{TurnReply}
 use Rattle.forwarding.specs.declared.reply.TurnReply.TheVariants as replies
-use Rattle.forwarding.specs.Turn.{Packet, packet_with, after_outcome, after_step}
+use Rattle.forwarding.specs.Turn.{packet_with, with_hop_of_turn, after_outcome, after_step}
 
-pub packet_stepped : (n : Network) (old : Packet) (stop : RouterStop) (step : Result (Outcome × List ℕ) Refusal)
-    (result : Result Outcome Refusal) (reply : TurnReply) (bytes : List ℕ) (place : PacketLocation) (passed : List WalkHop)
-    → IsPacketStepped step old.bytes bytes result
-    → IfOk result (λ outcome. (reply ≡ replies.Went outcome) × ((any : List ℕ) → packet_with any place passed ≡ after_outcome n (packet_with any old.place old.passed) stop outcome))
-    → IfErr result (λ refusal. (reply ≡ replies.Refused refusal) × (place ≡ places.Refused stop.ia stop.router refusal) × (passed ≡ old.passed))
-    → packet_with bytes place passed ≡ (after_step n old stop step).1
-packet_stepped n old stop step (Ok outcome) reply bytes place passed is went refused = rw is (went.1 bytes)
-packet_stepped n old stop step (Err refusal) reply bytes place passed is went refused =
-    rw is.0 (λ i. packet_with (is.1 i) (refused.1 i) (refused.2 i))
+pub packet_stepped : (n : Network) (before bytes : List ℕ) (at place : PacketLocation) (stop : RouterStop)
+    (step : Result (Outcome × List ℕ) Refusal) (result : Result Outcome Refusal) (reply : TurnReply) (hop : Option WalkHop)
+    → IsPacketStepped step before bytes result
+    → IfOk result (λ outcome. (reply ≡ replies.Went outcome) × ((any : List ℕ) (passed : List WalkHop) → packet_with any place (with_hop_of_turn passed hop) ≡ after_outcome n (packet_with any at passed) stop outcome))
+    → IfErr result (λ refusal. (reply ≡ replies.Refused refusal) × (place ≡ places.Refused stop.ia stop.router refusal) × (hop ≡ None))
+    → (passed : List WalkHop) → packet_with bytes place (with_hop_of_turn passed hop) ≡ (after_step n (packet_with before at passed) stop step).1
+packet_stepped n before bytes at place stop step (Ok outcome) reply hop is went refused passed = rw is (went.1 bytes passed)
+packet_stepped n before bytes at place stop step (Err refusal) reply hop is went refused passed =
+    rw is.0 (λ i. packet_with (is.1 i) (refused.1 i) (with_hop_of_turn passed (refused.2 i)))

@@ -1,6 +1,6 @@
 -- One turn of a packet in a network: the router that has the packet makes its step on the packet's
 -- bytes, and the outcome says where the packet goes (draft-dekater-scion-dataplane).
-use Rattle.std.specs.Prelude.{◌≢◌, ℕ, List, [], ◌∷◌, ◌++◌, length, nat_lt, if◌then◌else◌, bit_xor, slice_index, slice_set, Result, Ok, Err}
+use Rattle.std.specs.Prelude.{◌≢◌, ℕ, List, [], ◌∷◌, ◌++◌, length, nat_lt, if◌then◌else◌, bit_xor, slice_index, slice_set, Option, Some, None, Result, Ok, Err}
 use Rattle.refusal.specs.Refusal.{◌>>=◌}
 use Rattle.std.specs.Result.{result_unwrap_or}
 use Rattle.scion_topology.specs.declared.fault.TopologyFault.{TopologyFault}
@@ -43,6 +43,11 @@ put_at bytes ia router =
 -- the passed hops with this one added; a packet keeps at most 64
 abbrev pub with_passed_hop : List WalkHop → WalkHop → List WalkHop
 with_passed_hop passed hop = if nat_lt (length passed) 64 then passed ++ hop ∷ [] else passed
+
+-- the passed hops with that of a turn added, if a hop was passed in it
+abbrev pub with_hop_of_turn : List WalkHop → Option WalkHop → List WalkHop
+with_hop_of_turn passed (Some hop) = with_passed_hop passed hop
+with_hop_of_turn passed None = passed
 
 -- the hop of the AS in which the packet is, left by this interface
 abbrev pub hop_by : RouterStop → ℕ → WalkHop

@@ -1,15 +1,15 @@
 #![tactic(auto, unfolding(crate::specs::Turn::turn_of, crate::specs::Turn::turn_under))]
 
-ghost use Rattle.std.specs.Prelude.{◌≡◌, ℕ, ◌<◌, ◌≤◌, List, length, vec_capacity, IfOk, IfErr};
+ghost use Rattle.std.specs.Prelude.{◌≡◌, ℕ, ◌<◌, ◌≤◌, List, length, vec_capacity, None, IfOk, IfErr};
 ghost use Rattle.std.specs.Option.{option_map_or};
+ghost use Rattle.policy_expr.specs.declared.hop.WalkHop.{WalkHop};
 ghost use Rattle.scion_topology.specs.Topology.{far_end_in};
 ghost use Rattle.forwarding.specs.declared.location.RouterStop.{RouterStop};
 ghost use Rattle.forwarding.specs.declared.location.PacketLocation.TheVariants.{AtRouter};
-ghost use Rattle.forwarding.specs.Turn.{Packet, packet_with, with_passed_hop, altered_packet, hop_by, lost_packet, put_at, over_link, after_outcome, turn_under, turn_of};
+ghost use Rattle.forwarding.specs.Turn.{Packet, packet_with, with_passed_hop, with_hop_of_turn, altered_packet, hop_by, lost_packet, put_at, over_link, after_outcome, turn_under, turn_of};
 
 use crate::location::{PacketLocation, RouterStop};
 use crate::reply::TurnReply;
-use crate::trace::note;
 use isd_as::{IfId, IsdAs};
 use path_header::MAX_HOPS;
 use policy_expr::WalkHop;
@@ -118,7 +118,9 @@ impl PacketInFlight {
         } = self;
         match place {
             PacketLocation::AtRouter(_) => {
-                turn_in_place(topology, view, now, bytes, place, passed)
+                let (reply, hop) = turn_in_place(topology, view, now, bytes, place);
+                add_hop(passed, hop);
+                reply
             }
             _ => TurnReply::Still,
         }
@@ -151,85 +153,88 @@ impl PacketInFlight {
     }
 }
 
-/// A turn, as [`PacketInFlight::turn_under`] makes it, of a packet whose parts the caller has.
-/// There must be room for one hop more, up to 64 hops; no memory is taken.
+/// Adds the hop that a packet passed in a turn, if there is one, to those that it has passed, if
+/// they are fewer than 64. There must be room for it then, so that no memory is taken.
+pub fn add_hop(passed: &mut Vec<WalkHop>, hop: Option<WalkHop>)
+    requires { length passed.old.items < 64 → length passed.old.items < vec_capacity passed.old }
+    ensures hops { passed.new.items ≡ with_hop_of_turn passed.old.items hop }
+    ensures room { vec_capacity passed.new ≡ vec_capacity passed.old }
+{
+    match hop {
+        Some(hop) if passed.len() < MAX_HOPS => passed.push_reserved(hop),
+        _ => {}
+    }
+}
+
+/// A turn, as [`PacketInFlight::turn_under`] makes it, of a packet of these bytes that is there.
+/// Returns its reply, and the hop that the packet passed in it, for whoever keeps the passed hops.
 pub fn turn_in_place(
     topology: &Topology,
     view: &RouterView<'_>,
     now: u32,
     bytes: &mut [u8],
     place: &mut PacketLocation,
-    passed: &mut Vec<WalkHop>,
-) -> TurnReply
-    requires { length passed.old.items < 64 → length passed.old.items < vec_capacity passed.old }
-    ensures reply { result ≡ (turn_under topology.now view.now now
-        (packet_with bytes.old place.old passed.old.items)).0 }
-    ensures packet { packet_with bytes.new place.new passed.new.items
-        ≡ (turn_under topology.now view.now now
-        (packet_with bytes.old place.old passed.old.items)).1 }
+) -> (TurnReply, Option<WalkHop>)
+    ensures reply { (passed : List WalkHop) → result.0 ≡ (turn_under topology.now view.now now
+        (packet_with bytes.old place.old passed)).0 }
+    ensures packet { (passed : List WalkHop)
+        → packet_with bytes.new place.new (with_hop_of_turn passed result.1)
+        ≡ (turn_under topology.now view.now now (packet_with bytes.old place.old passed)).1 }
     ensures len { length bytes.new ≡ length bytes.old }
-    ensures few { length passed.old.items ≤ 64 → length passed.new.items ≤ 64 }
-    ensures room { vec_capacity passed.new ≡ vec_capacity passed.old }
 {
     match *place {
         PacketLocation::AtRouter(stop) => {
             let stepped = step(view, now, stop.arrival, bytes);
-            answer(topology, stop, stepped, place, passed)
+            answer(topology, stop, stepped, place)
         }
-        _ => TurnReply::Still,
+        _ => (TurnReply::Still, None),
     }
 }
 
-/// Puts a packet where the result of a router's step says, and returns the reply of the turn.
+/// Puts a packet where the result of a router's step says. Returns the reply of the turn, and the
+/// hop that the packet passed.
 fn answer(
     topology: &Topology,
     stop: RouterStop,
     stepped: Result<Outcome, Refusal>,
     place: &mut PacketLocation,
-    passed: &mut Vec<WalkHop>,
-) -> TurnReply
-    requires { length passed.old.items < 64 → length passed.old.items < vec_capacity passed.old }
-    ensures went { IfOk stepped (λ outcome. (result ≡ TurnReply.Went outcome)
-        × ((bytes : List ℕ) → packet_with bytes place.new passed.new.items
-        ≡ after_outcome topology.now (packet_with bytes place.old passed.old.items) stop outcome)) }
-    ensures refused { IfErr stepped (λ refusal. (result ≡ TurnReply.Refused refusal)
+) -> (TurnReply, Option<WalkHop>)
+    ensures went { IfOk stepped (λ outcome. (result.0 ≡ TurnReply.Went outcome)
+        × ((bytes : List ℕ) (passed : List WalkHop)
+        → packet_with bytes place.new (with_hop_of_turn passed result.1)
+        ≡ after_outcome topology.now (packet_with bytes place.old passed) stop outcome)) }
+    ensures refused { IfErr stepped (λ refusal. (result.0 ≡ TurnReply.Refused refusal)
         × (place.new ≡ PacketLocation.Refused stop.ia stop.router refusal)
-        × (passed.new.items ≡ passed.old.items)) }
-    ensures few { length passed.old.items ≤ 64 → length passed.new.items ≤ 64 }
-    ensures room { vec_capacity passed.new ≡ vec_capacity passed.old }
+        × (result.1 ≡ None)) }
 {
     match &stepped {
         Ok(outcome) => {
-            put(topology, stop, *outcome, place, passed);
-            TurnReply::Went(*outcome)
+            let hop = put(topology, stop, *outcome, place);
+            (TurnReply::Went(*outcome), hop)
         }
         Err(refusal) => {
             *place = PacketLocation::Refused(stop.ia, stop.router, *refusal);
-            TurnReply::Refused(*refusal)
+            (TurnReply::Refused(*refusal), None)
         }
     }
 }
 
-/// Puts a packet where the outcome of a router's step leads.
+/// Puts a packet where the outcome of a router's step leads. Returns the hop that it passed.
 fn put(
     topology: &Topology,
     stop: RouterStop,
     outcome: Outcome,
     place: &mut PacketLocation,
-    passed: &mut Vec<WalkHop>,
-)
-    requires { length passed.old.items < 64 → length passed.old.items < vec_capacity passed.old }
-    ensures put { (bytes : List ℕ) → packet_with bytes place.new passed.new.items
-        ≡ after_outcome topology.now (packet_with bytes place.old passed.old.items) stop outcome }
-    ensures few { length passed.old.items ≤ 64 → length passed.new.items ≤ 64 }
-    ensures room { vec_capacity passed.new ≡ vec_capacity passed.old }
+) -> Option<WalkHop>
+    ensures { (bytes : List ℕ) (passed : List WalkHop)
+        → packet_with bytes place.new (with_hop_of_turn passed result)
+        ≡ after_outcome topology.now (packet_with bytes place.old passed) stop outcome }
 {
     match outcome {
         Outcome::ToLink(out) => {
-            if let Some(next) = stop_behind(topology, stop.ia, out) {
-                note(passed, hop_by(stop, out));
-                *place = PacketLocation::AtRouter(next);
-            }
+            let next = stop_behind(topology, stop.ia, out)?;
+            *place = PacketLocation::AtRouter(next);
+            Some(hop_by(stop, out))
         }
         Outcome::ToRouter(router) => {
             *place = PacketLocation::AtRouter(RouterStop {
@@ -237,10 +242,11 @@ fn put(
                 arrival: Arrival::Inside,
                 ..stop
             });
+            None
         }
         Outcome::Deliver => {
-            note(passed, hop_by(stop, IfId::NONE));
             *place = PacketLocation::Delivered;
+            Some(hop_by(stop, IfId::NONE))
         }
     }
 }

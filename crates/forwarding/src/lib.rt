@@ -13,10 +13,9 @@ mod in_flight;
 pub mod laws;
 mod location;
 mod reply;
-mod trace;
 
 pub use departing::first_out;
 pub use framing::frame;
-pub use in_flight::{PacketInFlight, turn_in_place};
+pub use in_flight::{PacketInFlight, add_hop, turn_in_place};
 pub use location::{PacketLocation, RouterStop};
 pub use reply::TurnReply;

@@ -1,8 +1,7 @@
 pub mod Fault
 pub mod Event
 pub mod Value
-pub mod AnsweredWay
-pub mod SentWay
+pub mod Sent
 pub mod Step
 pub mod History
 pub mod Delivery

@@ -17,12 +17,13 @@ mod packets;
 mod reply;
 mod running;
 mod sending;
-mod way;
+mod sent;
 
 pub use event::{Event, Given};
 pub use fault::{EventFault, OWN_FAULTS};
 pub use limits::{MAX_OBJECTS, MAX_PAYLOAD_LEN};
 pub use net::Net;
-pub use packet::{Packet, Sent};
+pub use packet::Packet;
 pub use reply::Reply;
 pub use running::{Stopped, run};
+pub use sent::Sent;

@@ -1,12 +1,12 @@
 //! Sending packets, and replying to delivered ones.
 
-ghost use Rattle.std.specs.Prelude.{◌≡◌, ◌≤◌, IfOk, OnOk, Some, length, nat_le, slice_get};
+ghost use Rattle.std.specs.Prelude.{◌≡◌, ◌≤◌, IfErr, IfOk, OnOk, Some, length, nat_le, slice_get};
 ghost use Rattle.refusal.specs.Refusal.{Gives, check};
-ghost use Rattle.path_verifier.specs.Accepted.{IsAccepted};
+ghost use Rattle.path_verifier.specs.Accepted.{IsAccepted, IsRefused};
+ghost use Rattle.path_verifier.specs.declared.fault.VerifyFault.{VerifyFault};
 ghost use Rattle.forwarding.specs.Frame.{HasFrame};
 ghost use Rattle.network_core.specs.declared.fault.EventFault.TheVariants as faults;
 ghost use Rattle.network_core.specs.inner.Doing.{BeginsAt, DoesSend, Readies, ReadiesFrom};
-ghost use Rattle.network_core.specs.SentWay.{stored_way};
 ghost use Rattle.network_core.specs.Event.{BackOf, ByAnswer, ByWay, way_of};
 ghost use Rattle.network_core.specs.Value.{asked_at, way_on};
 ghost use Rattle.network_core.specs.Step.{header_back, packet_of, shipment_by};
@@ -16,13 +16,13 @@ use crate::event::Given;
 use crate::fault::EventFault;
 use crate::limits::{MAX_OBJECTS, MAX_PAYLOAD_LEN};
 use crate::net::{EventError, Net};
-use crate::packet::{Packet, Sent};
+use crate::packet::Packet;
 use crate::reply::Reply;
-use crate::way::SentWay;
+use crate::sent::Sent;
 use combinator::Path;
 use forwarding::{PacketInFlight, PacketLocation, frame};
 use path_header::Header;
-use path_verifier::{lend_all, verify};
+use path_verifier::{VerifiedPath, lend_all, verify};
 use policy_expr::Policy;
 use router_step::{destination_in, read_header, source_in};
 use std::alloc::{AllocError, Global};
@@ -136,8 +136,8 @@ impl Net {
             (record { way = way_on answer.now path.now; payload = payload.now }) result }
     {
         let router = self.first_router_on(answer.answer(), path)?;
-        let way = SentWay::of_answer(answer, number as usize)?;
-        Ok(packet_of(alloc, way, payload, self.moment, router)?)
+        let sent = Sent::by_answer(alloc, answer, number as usize, payload)?;
+        Ok(packet_of(alloc, sent, router)?)
     }
 
     /// The router at which a packet by a path of an answer departs, or the first refusal.
@@ -183,16 +183,28 @@ impl Net {
         ensures { Readies (λ p. p) self.now
             (record { way = way_of way.now; payload = payload.now }) result }
     {
-        let router = self.first_router(way)?;
-        let way = SentWay::of_given(alloc, way)?;
-        Ok(packet_of(alloc, way, payload, self.moment, router)?)
+        let path = self.accepted(way)?;
+        let router = self.router_at_start(way, &path)?;
+        let sent = Sent::by_given(alloc, way, &path, payload)?;
+        Ok(packet_of(alloc, sent, router)?)
     }
 
     /// The router at which a packet by this way departs, or the first refusal.
     fn first_router(&self, way: &Given<'_>) -> Result<u8, EventFault>
         ensures { BeginsAt self.now (way_of way.now) result }
     {
-        let path = match verify(
+        let path = self.accepted(way)?;
+        self.router_at_start(way, &path)
+    }
+
+    /// The path of a way, or the refusal of the verifier.
+    fn accepted<'a>(&self, way: &Given<'a>) -> Result<VerifiedPath<'a, 'a, Global>, EventFault>
+        ensures found { IfOk result (λ path. path ≡ asked_at self.now.moment (way_of way.now)) }
+        ensures refused { IfErr result (λ fault. (first : VerifyFault)
+            × (IsRefused (asked_at self.now.moment (way_of way.now)) first
+            × (fault ≡ faults.Path first))) }
+    {
+        match verify(
             way.pieces,
             way.header,
             way.source,
@@ -200,9 +212,20 @@ impl Net {
             self.moment,
             way.policy,
         ) {
-            Ok(path) => path,
-            Err(fault) => return Err(EventFault::Path(fault)),
-        };
+            Ok(path) => Ok(path),
+            Err(fault) => Err(EventFault::Path(fault)),
+        }
+    }
+
+    /// The router at which a packet by a way departs, whose path this is, or the first refusal.
+    fn router_at_start(
+        &self,
+        way: &Given<'_>,
+        path: &VerifiedPath<'_, '_, Global>,
+    ) -> Result<u8, EventFault>
+        requires { path.now ≡ asked_at self.now.moment (way_of way.now) }
+        ensures { BeginsAt self.now (way_of way.now) result }
+    {
         path.known();
         let out = path.walk()[0].egress;
         let router = match self.topology.owner(way.source, out) {
@@ -245,31 +268,18 @@ fn header_back(one: &Packet) -> Result<Header, EventFault>
     }
 }
 
-/// The packet of a way that was accepted, at this router of its source, unless memory runs out.
-fn packet_of(
-    alloc: Global,
-    way: SentWay,
-    payload: &[u8],
-    moment: u32,
-    router: u8,
-) -> Result<Packet, AllocError>
-    requires accepted { IsAccepted (asked_at moment (stored_way way)) }
-    requires few { length payload.now ≤ 1024 }
-    ensures packet { IfOk result (λ p. p ≡ packet_of
-        (record { way = stored_way way; payload = payload.now }) router) }
-    ensures frame { OnOk result
-        (HasFrame (stored_way way).source (stored_way way).destination (stored_way way).pieces) }
+/// The packet of a shipment, at this router of its source, unless memory runs out.
+fn packet_of(alloc: Global, sent: Sent, router: u8) -> Result<Packet, AllocError>
+    ensures packet { IfOk result (λ p. p ≡ packet_of sent router) }
+    ensures frame { OnOk result (HasFrame sent.way.source sent.way.destination sent.way.pieces) }
 {
-    let lent = way.lend();
-    lent.header.known();
-    let source = lent.source;
-    let bytes = frame(alloc, source, lent.destination, lent.header, payload)?;
-    let payload = Vec::from_slice(alloc, payload)?;
+    sent.known();
+    let source = sent.source();
+    let header = sent.header();
+    header.known();
+    let bytes = frame(alloc, source, sent.destination(), header, sent.payload())?;
     // The room for passed hops comes last, so that what is given back of it lies at the end of the
     // memory that is in use, where the next packet can take it.
     let transit = PacketInFlight::at_router(alloc, bytes, source, router)?;
-    Ok(Packet {
-        sent: Sent { way, payload },
-        transit,
-    })
+    Ok(Packet { sent, transit })
 }

@@ -1,5 +1,7 @@
 -- A flight from turn to turn.
-use Rattle.std.proofs.Common.{◌≡◌, ℕ, ◌+◌, ◌<◌, ◌^◌, List, Ok, [], ◌∷◌, ◌++◌, length, IsOk, refl, sym, ap, ◌∙◌, subst, arith}
+use Rattle.std.proofs.Common.{◌≡◌, ℕ, ◌+◌, ◌<◌, ◌≤◌, ◌^◌, List, Option, Some, None, Ok, [], ◌∷◌, ◌++◌, length, IsOk, refl, sym, ap, ◌∙◌, subst, arith, inl, inr}
+use Rattle.std.specs.Prelude.{nat_lt}
+use Rattle.std.proofs.lemmas.Bool.{cases_Bool, ltb-true}
 use Rattle.std.proofs.lemmas.List.{length-append}
 use Rattle.scion_topology.specs.View.{View}
 use Rattle.scion_topology.specs.Network.{Network}
@@ -8,6 +10,7 @@ use Rattle.scion_topology.specs.Topology.{view_in, owner_in}
 use Rattle.path_header.specs.Value.{HeaderValue, IsHeader}
 use Rattle.path_header.specs.Spelling.{FitsBits}
 use Rattle.policy_expr.specs.Policy.{Rules}
+use Rattle.policy_expr.specs.declared.hop.WalkHop.{WalkHop}
 use Rattle.path_verifier.specs.Piece.{PieceValue}
 use Rattle.path_verifier.specs.Header.{header_of, total_hops}
 use Rattle.path_verifier.specs.Walk.{walk_of}
@@ -18,7 +21,7 @@ use Rattle.forwarding.specs.declared.location.PacketLocation.{PacketLocation}
 use Rattle.forwarding.specs.declared.location.PacketLocation.TheVariants.{AtRouter, Delivered, Refused, Lost}
 use Rattle.forwarding.specs.Frame.{frame_of, HasFrame}
 use Rattle.forwarding.specs.Journey.{first_out}
-use Rattle.forwarding.specs.Turn.{Packet, put_at, turn_under, turn_of, turned_packet, after}
+use Rattle.forwarding.specs.Turn.{Packet, with_hop_of_turn, put_at, turn_under, turn_of, turned_packet, after}
 use Rattle.forwarding.proofs.Ended.{turn_by_view}
 use Rattle.forwarding.proofs.Reading.{length_fields}
 use Rattle.forwarding.proofs.Bounded.{fewer_before, passed_before, stops_are_there, owners_are_there}
@@ -206,3 +209,15 @@ pub advanced_by : (now : ℕ) (flight : FlightValue) (view : View) (packet : Pac
 advanced_by now flight view packet at left =
     ap (λ (p : Packet). record flight { turns = flight.turns + 1; packet = p })
     (turned_by now flight view packet at left)
+
+-- ---- the hops that it has passed
+
+pub few_passed : (passed new : List WalkHop) (hop : Option WalkHop) → length passed ≤ 64
+    → new ≡ with_hop_of_turn passed hop → length new ≤ 64
+few_passed passed new None few is = rw is few
+few_passed passed new (Some hop) few is = elim (cases_Bool (nat_lt (length passed) 64)) [
+  | inl room ↦ (
+      let there = ltb-true (length passed) 64 room in
+      rw (is, room) (omega (arith, length-append passed (hop ∷ []), there)))
+  | inr full ↦ rw (is, full) few
+]

@@ -1,14 +1,13 @@
 //! Flights that are carried in a run, and their ends.
 
-ghost use Rattle.std.specs.Prelude.{◌≡◌, ◌+◌, ◌<◌, Some, IfErr, length, slice_get};
-ghost use Rattle.forwarding.specs.Turn.{turned_packet};
+ghost use Rattle.std.specs.Prelude.{◌≡◌, ◌+◌, ◌<◌, [], Some, IfErr, length, slice_get};
+ghost use Rattle.forwarding.specs.Turn.{packet_with, turned_packet};
 ghost use Rattle.network_core.specs.Delivery.{IsAtRouter};
 ghost use Rattle.router_workers.specs.inner.Run.{without_hops, carried_packet, IsEndOfFlight};
 
 use crate::end::End;
 use crate::flight::Flight;
-use crate::turn_maker::TurnMaker;
-use forwarding::PacketLocation;
+use forwarding::{PacketLocation, turn_in_place};
 use scion_topology::Topology;
 use std::alloc::{AllocError, Global};
 use std::marker::{Brand, Model, PhantomData};
@@ -105,7 +104,7 @@ impl<J: RunFacts> Model for FlightEnd<J> {
 
 impl Job {
     /// One turn of the router that has the packet.
-    fn turn(&mut self, topology: &Topology, now: u32, maker: &mut TurnMaker)
+    fn turn(&mut self, topology: &Topology, now: u32)
         requires { self.old.turns < 128 }
         ensures number { self.new.number ≡ self.old.number }
         ensures turns { self.new.turns ≡ self.old.turns + 1 }
@@ -113,8 +112,22 @@ impl Job {
         ensures packet { carried_packet self.new
             ≡ without_hops (turned_packet topology.now now (carried_packet self.old)) }
     {
-        maker.turn(topology, now, &mut self.bytes, &mut self.place);
+        turn(topology, now, &mut self.bytes, &mut self.place);
         self.turns += 1;
+    }
+}
+
+/// One turn of the router that has the packet of these bytes. A packet that is at no router of the
+/// network stays as it is. A run tells no hops, so the one that the packet passes is left.
+#[tactic(auto, unfolding(forwarding::specs::Turn::turn_of, forwarding::specs::Turn::turn_under))]
+fn turn(topology: &Topology, now: u32, bytes: &mut [u8], place: &mut PacketLocation)
+    ensures { packet_with bytes.new place.new []
+        ≡ without_hops (turned_packet topology.now now (packet_with bytes.old place.old [])) }
+{
+    if let PacketLocation::AtRouter(stop) = *place {
+        if let Ok(view) = topology.view(stop.ia, stop.router) {
+            let _ = turn_in_place(topology, &view, now, bytes, place);
+        }
     }
 }
 
@@ -178,18 +191,13 @@ impl<J: RunFacts> CarriedFlight<J> {
     }
 
     /// One turn of the router that has the flight.
-    pub(crate) fn advance(
-        self,
-        topology: &Topology,
-        now: u32,
-        maker: &mut TurnMaker,
-    ) -> CarriedFlight<J>
+    pub(crate) fn advance(self, topology: &Topology, now: u32) -> CarriedFlight<J>
         requires network { topology.now ≡ J.network }
         requires now { now ≡ J.now }
         requires under_way { IsAtRouter self.place }
     {
         let CarriedFlight { mut job, of } = self;
-        job.turn(topology, now, maker);
+        job.turn(topology, now);
         CarriedFlight { job, of }
     }
 

@@ -3,12 +3,8 @@ ghost use Rattle.refusal.specs.Refusal.{Answers};
 ghost use Rattle.forwarding.specs.Turn.{IsAtNoRouter};
 ghost use Rattle.router_workers.specs.Flight.{FlightValue, packet_at_source, sent_packet_of, flight_at_start, advanced_flight, IsViewAt, IsFlight};
 
-use crate::transit::Transit;
-use forwarding::{PacketLocation, frame};
-use isd_as::IsdAs;
+use forwarding::{PacketLocation, RouterStop, add_hop, frame, turn_in_place};
 use network_core::Sent;
-use path_header::Header;
-use path_verifier::OwnedPiece;
 use policy_expr::WalkHop;
 use refusal::OrMemory;
 use scion_topology::{RouterView, Topology, TopologyFault};
@@ -24,33 +20,29 @@ use std::marker::Model;
 #[derive(Drop)]
 pub struct Flight<'a> {
     fabric: &'a Topology,
-    source: IsdAs,
-    destination: IsdAs,
-    pieces: &'a [OwnedPiece],
-    header: &'a Header,
-    payload: &'a [u8],
+    sent: &'a Sent,
     turns: u32,
-    transit: Transit,
+    bytes: Vec<u8>,
+    place: PacketLocation,
+    passed: Vec<WalkHop>,
 }
 
 impl<'a> Model for Flight<'a> {
     ghost use Rattle.std.specs.Prelude.{◌≤◌, length, vec_capacity};
     ghost use Rattle.forwarding.specs.Turn.{packet_with};
     ghost use Rattle.network_core.specs.Delivery.{IsAtRouter};
-    ghost use Rattle.router_workers.specs.Flight.{FlightValue, IsFlight, flight_with, sent_with};
+    ghost use Rattle.router_workers.specs.Flight.{FlightValue, IsFlight, flight_with, sent_packet_of};
 
     ghost Value = { FlightValue };
 
-    ghost view = { λ f. flight_with f.fabric.now
-        (sent_with f.source f.destination f.pieces.now f.header.now f.payload.now) f.turns
-        (packet_with f.transit.bytes.items f.transit.place f.transit.passed.items) };
+    ghost view = { λ f. flight_with f.fabric.now (sent_packet_of f.sent.now) f.turns
+        (packet_with f.bytes.items f.place f.passed.items) };
 
-    ghost invariant = { λ f. IsFlight (flight_with f.fabric.now
-        (sent_with f.source f.destination f.pieces.now f.header.now f.payload.now) f.turns
-        (packet_with f.transit.bytes.items f.transit.place f.transit.passed.items))
-        × (length f.transit.passed.items ≤ 64)
-        × (IsAtRouter f.transit.place
-        → length f.header.now.hops ≤ vec_capacity f.transit.passed) };
+    ghost invariant = { λ f. IsFlight (flight_with f.fabric.now (sent_packet_of f.sent.now) f.turns
+        (packet_with f.bytes.items f.place f.passed.items))
+        × (length f.passed.items ≤ 64)
+        × (IsAtRouter f.place
+        → length f.sent.now.way.header.hops ≤ vec_capacity f.passed) };
 }
 
 impl<'a> Flight<'a> {
@@ -79,17 +71,14 @@ impl<'a> Flight<'a> {
             sent.header(),
             sent.payload(),
         )?;
-        let hops = sent.header().hop_count();
-        let transit = Transit::at_router(alloc, bytes, sent.source(), router, hops)?;
+        let passed = Vec::with_capacity(alloc, sent.header().hop_count())?;
         Ok(Flight {
             fabric,
-            source: sent.source(),
-            destination: sent.destination(),
-            pieces: sent.pieces(),
-            header: sent.header(),
-            payload: sent.payload(),
+            sent,
             turns: 0,
-            transit,
+            bytes,
+            place: PacketLocation::AtRouter(RouterStop::of_host(sent.source(), router)),
+            passed,
         })
     }
 
@@ -110,9 +99,17 @@ impl<'a> Flight<'a> {
         requires { IsViewAt self.old.fabric self.old.packet.place view.now }
         ensures { self.new ≡ advanced_flight now self.old }
     {
-        let fabric = self.fabric;
-        self.transit.turn_under(fabric, view, now);
-        self.turns += 1;
+        let Flight {
+            fabric,
+            turns,
+            bytes,
+            place,
+            passed,
+            ..
+        } = self;
+        let (_, hop) = turn_in_place(fabric, view, now, bytes, place);
+        add_hop(passed, hop);
+        *turns += 1;
     }
 
     /// The network's view of the router that has the flight; none if it is at no router.
@@ -142,14 +139,14 @@ impl<'a> Flight<'a> {
     pub(crate) fn bytes(&self) -> &[u8]
         ensures { result.now ≡ self.now.packet.bytes }
     {
-        &self.transit.bytes
+        &self.bytes
     }
 
     /// Where it is.
     pub fn place(&self) -> PacketLocation
         ensures { result ≡ self.now.packet.place }
     {
-        self.transit.place
+        self.place
     }
 
     /// The number of its turns, at most 128.
@@ -165,7 +162,7 @@ impl<'a> Flight<'a> {
         ensures value { result.now ≡ self.now.packet.passed }
         ensures few { length result.now ≤ 64 }
     {
-        &self.transit.passed
+        &self.passed
     }
 
     /// Does nothing; its contract tells the caller the rules of every flight.

@@ -16,8 +16,6 @@ mod pass_pairs;
 mod posted;
 mod report;
 mod run;
-mod transit;
-mod turn_maker;
 mod worker;
 
 pub use end::End;

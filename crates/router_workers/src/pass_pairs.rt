@@ -6,7 +6,6 @@ ghost use Rattle.router_workers.specs.inner.PassPairs.{AreInboxes, ArePassPairs,
 
 use crate::carried::RunFacts;
 use crate::posted::PostedFlight;
-use crate::turn_maker::TurnMaker;
 use crate::worker::Worker;
 use inbox::{Inbox, Receiver, ReceiverPass, Sender, SenderPass};
 use std::alloc::{AllocError, Global};
@@ -75,17 +74,16 @@ pub(crate) fn workers_of<'a, J: RunFacts>(
     requires inboxes { AreInboxes J.workers J.slots (inboxes_of first_senders.items) }
     requires own { inboxes_of receivers.items ≡ inboxes_of first_senders.items }
     ensures { IfOk result (λ worker_list.
-        map (λ worker. worker.maker.number) worker_list.items ≡ range_with_len 0 J.workers) }
+        map (λ worker. worker.number) worker_list.items ≡ range_with_len 0 J.workers) }
 {
     let mut first_senders = first_senders;
     let mut worker_list = Vec::with_capacity(alloc, receivers.len())?;
     for receiver in receivers {
         let number = worker_list.len();
-        let maker = TurnMaker::new(alloc, number)?;
         let senders = ways_of(alloc, &mut first_senders, number)?;
         let ends = Vec::with_capacity(alloc, flights)?;
         worker_list.push(Worker {
-            maker,
+            number,
             receiver,
             senders,
             ends,

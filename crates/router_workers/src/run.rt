@@ -186,7 +186,7 @@ fn start<J: RunFacts + Send + Sync, R: Threads + Wait + Sync, G: Gate>(
     worker_list: Vec<Worker<'_, J>>,
     row: Vec<Option<FlightEnd<J>>>,
 ) -> Result<Vec<Option<FlightEnd<J>>>, AllocError>
-    requires { map (λ worker. worker.maker.number) worker_list.items ≡ range_with_len 0 J.workers }
+    requires { map (λ worker. worker.number) worker_list.items ≡ range_with_len 0 J.workers }
 {
     let handles = Vec::with_capacity(alloc, worker_list.len())?;
     thread::scope(

@@ -10,7 +10,6 @@ ghost use Rattle.router_workers.specs.inner.PassPairs.{IsNext, put_in, IsPutIn, 
 
 use crate::carried::{CarriedFlight, FlightEnd, RunFacts};
 use crate::posted::PostedFlight;
-use crate::turn_maker::TurnMaker;
 use forwarding::PacketLocation;
 use inbox::{Receiver, Sender};
 use isd_as::IsdAs;
@@ -64,17 +63,17 @@ pub(crate) struct RunState<'d, J: RunFacts, G> {
     ghost crowd: { crowded ≡ true ↔ (J.slots < length J.flights) },
 }
 
-/// A worker: what it makes turns with, its inbox, the ways into all inboxes, by the numbers of
-/// their workers, and the ends that it has found, with room for those of all flights. There are as
-/// many inboxes as the run has workers, with as many places as it was asked for.
+/// A worker: its number, its inbox, the ways into all inboxes, by the numbers of their workers, and
+/// the ends that it has found, with room for those of all flights. There are as many inboxes as the
+/// run has workers, with as many places as it was asked for.
 #[derive(Drop)]
 pub(crate) struct Worker<'a, J: RunFacts> {
-    pub(crate) maker: TurnMaker,
+    pub(crate) number: usize,
     pub(crate) receiver: Receiver<'a, PostedFlight<J>>,
     pub(crate) senders: Vec<Sender<'a, PostedFlight<J>>>,
     pub(crate) ends: Vec<FlightEnd<J>>,
     ghost inboxes: { AreInboxes J.workers J.slots (inboxes_of senders.items) },
-    ghost own: { slice_get (inboxes_of senders.items) maker.number ≡ Some receiver.of },
+    ghost own: { slice_get (inboxes_of senders.items) number ≡ Some receiver.of },
 }
 
 /// The worker for flights at this router: the place of its AS in the topology plus the router's
@@ -217,7 +216,7 @@ pub(crate) fn work<J: RunFacts, R: Wait, G: Gate>(
     worker: Worker<'_, J>,
 ) -> Vec<FlightEnd<J>> {
     let Worker {
-        mut maker,
+        number,
         mut receiver,
         mut senders,
         mut ends,
@@ -227,14 +226,7 @@ pub(crate) fn work<J: RunFacts, R: Wait, G: Gate>(
         if state.left.load(Ordering::SeqCst) == 0 {
             return ends;
         }
-        let taken = empty_inbox(
-            rt,
-            state,
-            &mut maker,
-            &mut receiver,
-            &mut senders,
-            &mut ends,
-        );
+        let taken = empty_inbox(rt, state, number, &mut receiver, &mut senders, &mut ends);
         pause(taken);
     }
     // `forever` does not end.
@@ -246,7 +238,7 @@ pub(crate) fn work<J: RunFacts, R: Wait, G: Gate>(
 fn empty_inbox<J: RunFacts, R: Wait, G: Gate>(
     rt: &R,
     state: &RunState<'_, J, G>,
-    maker: &mut TurnMaker,
+    number: usize,
     receiver: &mut Receiver<'_, PostedFlight<J>>,
     senders: &mut [Sender<'_, PostedFlight<J>>],
     ends: &mut Vec<FlightEnd<J>>,
@@ -257,7 +249,7 @@ fn empty_inbox<J: RunFacts, R: Wait, G: Gate>(
     let mut taken = 0usize;
     for _ in rt.forever() {
         match receiver.pop(rt) {
-            Some(posted) => carry(rt, state, maker, senders, ends, posted),
+            Some(posted) => carry(rt, state, number, senders, ends, posted),
             None => return taken,
         }
         taken = taken.saturating_add(1);
@@ -295,7 +287,7 @@ fn wait_for_beginning<R: Wait>(rt: &R, begun: &AtomicBool) {
 fn carry<J: RunFacts, R: Wait, G: Gate>(
     rt: &R,
     state: &RunState<'_, J, G>,
-    maker: &mut TurnMaker,
+    number: usize,
     senders: &mut [Sender<'_, PostedFlight<J>>],
     ends: &mut Vec<FlightEnd<J>>,
     posted: PostedFlight<J>,
@@ -303,10 +295,10 @@ fn carry<J: RunFacts, R: Wait, G: Gate>(
     requires { AreInboxes J.workers J.slots (inboxes_of senders.old) }
     ensures { inboxes_of senders.new ≡ inboxes_of senders.old }
 {
-    if posted.worker() != maker.number {
+    if posted.worker() != number {
         pass_on(rt, state, senders, ends, posted);
     } else {
-        let turned = turn(state, maker, posted.into_carried());
+        let turned = turn(state, number, posted.into_carried());
         send_on(rt, state, senders, ends, turned);
     }
 }
@@ -314,14 +306,14 @@ fn carry<J: RunFacts, R: Wait, G: Gate>(
 /// One turn of a flight, through the gate, by the worker for the flight's router.
 fn turn<J: RunFacts, G: Gate>(
     state: &RunState<'_, J, G>,
-    maker: &mut TurnMaker,
+    number: usize,
     carried: CarriedFlight<J>,
 ) -> CarriedFlight<J>
     requires under_way { IsAtRouter carried.place }
-    requires own { IsNext J.network J.workers carried.place maker.old.number }
+    requires own { IsNext J.network J.workers carried.place number }
 {
-    state.gate.enter(maker.number);
-    let turned = carried.advance(state.topology, state.now, maker);
-    state.gate.leave(maker.number);
+    state.gate.enter(number);
+    let turned = carried.advance(state.topology, state.now);
+    state.gate.leave(number);
     turned
 }

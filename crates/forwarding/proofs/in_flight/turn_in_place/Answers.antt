@@ -7,10 +7,10 @@ use Rattle.forwarding.proofs.in_flight.turn_in_place.Goals as goal
 
 pub returns-in-AtRouter-clause-packet : goal.returns-in-AtRouter-clause-packet
 unfolding turn_under
-returns-in-AtRouter-clause-packet c =
+returns-in-AtRouter-clause-packet c passed =
     let a = c.args in
-    let old = packet_with a.bytes.now a.place.now a.passed.now.items in
+    let old = packet_with a.bytes.now a.place.now passed in
     let stop = c.in-AtRouter.stop in
-    packet_stepped a.topology.now old stop
-    (packet_step a.view.now a.now stop.arrival old.bytes) c.step-stepped.result _ c.step-stepped.new.packet _ _ c.step-stepped.ensures.exact c.answer.ensures.went c.answer.ensures.refused
+    packet_stepped a.topology.now a.bytes.now _ a.place.now _ stop
+    (packet_step a.view.now a.now stop.arrival a.bytes.now) c.step-stepped.result _ _ c.step-stepped.ensures.exact c.answer.ensures.went c.answer.ensures.refused passed
     ∙ sym (ap (λ place. (at_place a.topology.now a.view.now a.now old place).1) c.in-AtRouter.is)

@@ -22,9 +22,9 @@ invariant_of-push g c =
     (slice_get-get_or c.args.receivers.items (length c.loop-receiver.yielded) c.in-Some.receiver turn.0
     ∙ ap (λ w. Some w) (sym turn.1)) in
     let same = c.in_ok-senders.ensures.further ∙ kept.0 in
-    let own = c.in_ok-maker.maker.number in
+    let own = c.len-number.result in
     let number : length c.loop-receiver.yielded ≡ own =
-    omega (arith, c.len-number.ensures, kept.1.0, c.in_ok-maker.ensures) in
+    omega (arith, c.len-number.ensures, kept.1.0) in
     record {
       inboxes = subst (AreInboxes g.J.RunFacts.workers g.J.RunFacts.slots) (sym same) c.requires.inboxes;
       own = subst (λ (inboxes : List Opened). slice_get inboxes own ≡ Some c.in-Some.receiver.of)
@@ -38,14 +38,14 @@ loop-receiver-preserved g c =
     let one = pushed _ _ _ _ _ c.push.ensures.items c.in_ok-push.was in
     let more = length_push c.loop-receiver.yielded c.in-Some.receiver in
     let long = ap length one ∙ length_push c.loop-receiver.worker_list.items _ in
-    let number : c.in_ok-maker.maker.number ≡ 0 + length c.loop-receiver.yielded =
-    omega (arith, c.len-number.ensures, kept.1.0, c.in_ok-maker.ensures) in (
+    let number : c.len-number.result ≡ 0 + length c.loop-receiver.yielded =
+    omega (arith, c.len-number.ensures, kept.1.0) in (
       c.in_ok-senders.ensures.kept ∙ kept.0,
       (
         omega (arith, long, more, kept.1.0),
-        ap (λ ws. map (λ worker. worker.maker.number) ws) one
-            ∙ map-append (λ worker. worker.maker.number) c.loop-receiver.worker_list.items _
-            ∙ ap (λ (ks : List ℕ). ks ++ c.in_ok-maker.maker.number ∷ []) kept.1.1
+        ap (λ ws. map (λ worker. worker.number) ws) one
+            ∙ map-append (λ worker. worker.number) c.loop-receiver.worker_list.items _
+            ∙ ap (λ (ks : List ℕ). ks ++ c.len-number.result ∷ []) kept.1.1
             ∙ ap (λ (k : ℕ). range_with_len 0 (length c.loop-receiver.yielded) ++ k ∷ []) number
             ∙ sym (range_more 0 (length c.loop-receiver.yielded))
             ∙ ap (λ (k : ℕ). range_with_len 0 k) (omega (arith, more)),

@@ -7,5 +7,5 @@ abbrev pub invariant-loop-receiver : goal.invariant-loop-receiver
 invariant-loop-receiver g l =
     (inboxes_of l.first_senders.items ≡ inboxes_of l.fn.first_senders.items)
     × ((length l.worker_list.items ≡ length l.yielded)
-    × (map (λ worker. worker.maker.number) l.worker_list.items
+    × (map (λ worker. worker.number) l.worker_list.items
     ≡ range_with_len 0 (length l.yielded)))
