@@ -38,7 +38,7 @@ LAYERS = {
     " router_workers",
     "Examples of the theorem": "arrivals row_history row_lines",
     "Texts in and out": "event_lines work_lines beacon_lines step_line packet_view network_view"
-    " path_report line_faults wire_packets run_capture commands view_words views",
+    " path_report line_faults wire_packets run_capture path_requests commands view_words views",
     "Programs, and libraries for other languages": "scionet scionet_view tour bench scion_ffi"
     " scion_ffi_paths",
     "For tests": "refusing worked conformance_values conformance_network conformance_paths"

@@ -49,7 +49,7 @@ TYPES = {
     "beaconing": [("BeaconFault", "", "")],
     "network_core": [("EventFault", "Net::step", "each of the events")],
     "router_workers": [("RunFault", "", "")],
-    "scion_ffi_paths": [("RequestFault", "scion_paths scion_verify", "")],
+    "path_requests": [("RequestFault", "scion_paths scion_verify", "")],
 }
 
 # Refusals that no table has: the definition of each, and its number in it.

@@ -219,7 +219,7 @@ VERSIONS = {
 
 # Where the largest number of bytes in a request stands, beside the definition that clauses cite.
 MOST = {
-    "crates/scion_ffi_paths/specs/Asked.antt": r"^most_request = (\d+)$",
+    "crates/path_requests/specs/Asked.antt": r"^most_request = (\d+)$",
     "include/scion.h": r"^#define SCION_MAX_REQUEST (\d+)$",
     "bindings/python/scion/__init__.py": r"^MAX_REQUEST = (\d+)$",
     "bindings/rust/src/paths.rs": r"^pub const MAX_REQUEST_LEN: usize = ([\d_]+);$",

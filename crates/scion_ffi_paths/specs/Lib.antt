@@ -1,10 +1,1 @@
-pub mod Fault
-pub mod Asked
-pub mod Stretch
-pub mod Given
-pub mod Expiry
-pub mod Text
-pub mod Answer
-pub mod Verdict
 pub mod Room
-pub mod inner

@@ -1,23 +1,11 @@
 //! The paths of this network as a static library, for hosts written in C, Rust or Python: requests
-//! and answers are JSON.
+//! and answers are JSON, those of `path_requests`.
 //!
 //! A call frees all memory that it takes before it returns.
 #![tactic(auto)]
 
-mod answer;
-mod expiry;
-mod fault;
-pub mod laws;
-mod paths;
-mod request;
+mod calls;
 mod room;
-mod segment;
-mod stretch;
-mod text;
-mod verdict;
 
-pub use fault::RequestFault;
-pub use paths::scion_paths;
-pub use request::MAX_REQUEST_LEN;
+pub use calls::{scion_paths, scion_verify};
 pub use room::ScionText;
-pub use verdict::scion_verify;

@@ -1,10 +1,10 @@
 //! The room of a host, into which an answer is written.
 
 ghost use Rattle.std.specs.Prelude.{◌≡◌, ◌<◌, Err, Some};
+ghost use Rattle.path_requests.specs.Told.{text_told};
 ghost use Rattle.scion_ffi_paths.specs.Room.{IsPut};
-ghost use Rattle.scion_ffi_paths.specs.inner.Told.{text_told};
 
-use crate::fault::RequestError;
+use path_requests::RequestError;
 use refusal::OrMemory;
 
 /// What happened to an answer. `status` is 0 if its `len` bytes were written, 1 if the room has

@@ -1,0 +1,16 @@
+-- What was read and what is still to be read are what all of the list reads as.
+use Rattle.std.proofs.Common.{◌≡◌}
+use Rattle.serde_json.specs.Events.{items_len}
+use Rattle.json_fields.specs.Documents.{list_items}
+use Rattle.json_fields.specs.Fields.{items_at}
+use Rattle.json_fields.proofs.Front.{with_front}
+use Rattle.path_requests.specs.Stretch.{piece_at}
+use Rattle.path_requests.proofs.stretch.pieces.Given as goal
+
+abbrev pub invariant-loop-value : goal.invariant-loop-value
+invariant-loop-value l =
+    with_front l.pieces.items (items_at (piece_at l.segments) (list_items l.left))
+    ≡ items_at (piece_at l.segments) (list_items l.values)
+
+abbrev pub decreases-loop-value : goal.decreases-loop-value
+decreases-loop-value l = items_len (list_items l.left)

@@ -1,0 +1,2 @@
+-- Words of private functions' contracts alone: no clause of a public call cites one.
+pub mod Given

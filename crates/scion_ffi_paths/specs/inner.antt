@@ -1,2 +1,0 @@
--- Words of private functions' contracts alone: no clause of a public call cites one.
-pub mod Told
