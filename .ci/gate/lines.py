@@ -1,4 +1,4 @@
-"""Writes two tables of docs/lines.md: the members of an AS, by the comments in `line_faults`, and
+"""Writes two tables of docs/lines.md: the members of an AS, by the comments in `event_lines`, and
 the refusals of each event in their order, by the definition of a step of `network_core` and those
 that it cites."""
 import itertools
@@ -13,7 +13,7 @@ from gate.printing import settle
 from gate.specs import Definition, Specs
 
 PAGE = Path("docs/lines.md")
-MEMBERS = Path("crates/line_faults/src/member.rt")
+MEMBERS = Path("crates/event_lines/src/members.rt")
 FAULTS = Path("crates/network_core/src/fault.rt")
 EVENT_FAULT = "EventFault"
 

@@ -7,3 +7,4 @@ pub mod Ran
 pub mod Heard
 pub mod Writing
 pub mod Running
+pub mod Formed

@@ -1,4 +1,5 @@
 pub mod Line
+pub mod Members
 pub mod AcceptedLines
 pub mod Text
 pub mod Answers

@@ -2,7 +2,7 @@
 //!
 //! The first line is a topology. Each line after it is an event of the network, or shows a packet.
 //! [`listen`] accepts all lines, or only those that prepare a network, and returns the network
-//! after them. A [`LineRun`] answers lines that come one by one.
+//! after them. A [`LineRun`] answers lines that come one by one. [`members`] is the table of lines.
 #![tactic(auto)]
 
 mod accepted;
@@ -11,8 +11,10 @@ mod fault;
 pub mod fields;
 mod happening;
 pub mod input;
+pub mod laws;
 mod line;
 mod line_run;
+pub mod members;
 mod run;
 mod session;
 mod text;

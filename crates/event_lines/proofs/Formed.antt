@@ -1,0 +1,467 @@
+-- An object is a line exactly if it has each member of its word in its form.
+use Rattle.std.proofs.Common.{◌≡◌, ℕ, ◌%◌, ◌&&◌, Bool, true, false, if◌then◌else◌, codes, List, [], ◌∷◌, length, Option, Some, None, Result, Ok, Err, is_some, is_ok, refl, sym, ap, ◌∙◌, true≢false, arith}
+use Rattle.std.specs.Prelude.{◌↔◌, ◌≤◌, ◌||◌, IsTrue, nat_le, not, option_and_then, option_map}
+use Rattle.std.specs.List.{AllPass, list_all}
+use Rattle.std.specs.Result.{result_ok}
+use Rattle.std.specs.Str.{bytes_eq}
+use Rattle.std.proofs.lemmas.Bool.{le-leb, leb-true}
+use Rattle.std.proofs.lemmas.Slice.Eq.{bytes_eq-Decides}
+use Rattle.serde_json.specs.Data.{Data, null, boolean, number, string, array, object}
+use Rattle.serde_json.specs.Find.{get, as_bool, as_number, as_str, as_u64}
+use Rattle.hex.specs.Hex.{decode_of, is_hex_digit}
+use Rattle.hex.proofs.HexLemmas.{decode_of-digits, decode_of-ok}
+use Rattle.isd_as.specs.Reading.{address_at}
+use Rattle.refusal.specs.Optional.{◌>>=◌}
+use Rattle.json_fields.specs.Fields.{text_at, truth_at, whole_at}
+use Rattle.scion_topology.specs.declared.network.End.{End}
+use Rattle.scion_topology.specs.declared.network.LinkClass.TheVariants.{Core, Child}
+use Rattle.scion_topology.specs.Keys.{key_from}
+use Rattle.scion_topology.specs.Network.{is_wildcard}
+use Rattle.scion_topology.specs.Reading.{address_in, as_entry_at, class_at, end_at, key_at, link_at}
+use Rattle.event_lines.specs.declared.members.MemberForm.TheVariants.{Address, AsAddress, Bytes, Key, Limit, LinkKind, Object, Truth, Whole}
+use Rattle.event_lines.specs.Line.{Happens, ask_in, back_in, byte_at, bytes_at, event_in, ia_in, line_with_word, long_at, options_in, plain_event, rotate_in, send_in, short_at, show_in, traffic_event}
+use Rattle.event_lines.specs.Members.{MemberValue, alter_members, as_members, ask_members, back_members, byte_form, extend_members, first_misfit, has_end, has_link, has_member, has_members, has_these, is_formed, is_of_form, is_plain, interface_members, line_words, long_form, members_of, number_within, originate_members, packet_members, rotate_members, send_members, short_form, terminate_members, text_passes, tick_members}
+
+-- ---- values by their form
+
+some_ok : {A F : Type 0} (r : Result A F) → is_some (result_ok r) ≡ is_ok r
+some_ok (Ok x) = refl
+some_ok (Err e) = refl
+
+read_text : {A F : Type 0} (read : (List ℕ → Result A F)) (text : Option (List ℕ))
+    → is_some (text >>= (λ t. result_ok (read t))) ≡ text_passes (λ t. is_ok (read t)) text
+read_text read None = refl
+read_text read (Some text) = some_ok (read text)
+
+address_there : (name : List ℕ) (d : Data)
+    → is_some (ia_in name d) ≡ is_of_form Address (get name d)
+unfolding ia_in text_at
+address_there name d = of (get name d)
+  where
+    of : (v : Option Data) → is_some ((v >>= (λ x. as_str x)) >>= (λ text. result_ok (address_at text)))
+        ≡ is_of_form Address v
+    of None = refl
+    of (Some x) = read_text address_at (as_str x)
+
+bytes_there : (name : List ℕ) (d : Data)
+    → is_some (bytes_at name d) ≡ is_of_form Bytes (get name d)
+unfolding bytes_at text_at
+bytes_there name d = of (get name d)
+  where
+    of : (v : Option Data) → is_some ((v >>= (λ x. as_str x)) >>= (λ text. result_ok (decode_of text)))
+        ≡ is_of_form Bytes v
+    of None = refl
+    of (Some x) = read_text decode_of (as_str x)
+
+if_some : (b : Bool) (n : ℕ) → is_some (if b then Some n else None) ≡ b
+if_some true n = refl
+if_some false n = refl
+
+within : (low high : ℕ) (number : Option ℕ)
+    → is_some (number >>= (λ n. if nat_le low n && nat_le n high then Some n else None))
+    ≡ number_within low high number
+within low high None = refl
+within low high (Some n) = if_some (nat_le low n && nat_le n high) n
+
+whole_there : (low high : ℕ) (name : List ℕ) (d : Data)
+    → is_some (whole_at low high name d) ≡ is_of_form (Whole low high) (get name d)
+unfolding whole_at
+whole_there low high name d = of (get name d)
+  where
+    of : (v : Option Data) → is_some (v >>= (λ x. option_and_then as_u64 (as_number x)
+        >>= (λ n. if nat_le low n && nat_le n high then Some n else None)))
+        ≡ is_of_form (Whole low high) v
+    of None = refl
+    of (Some x) = within low high (option_and_then as_u64 (as_number x))
+
+limit_there : (name : List ℕ) (d : Data)
+    → is_some (whole_at 0 4294967295 name d) ≡ is_of_form Limit (get name d)
+limit_there name d = whole_there 0 4294967295 name d ∙ same (get name d)
+  where
+    same : (v : Option Data) → is_of_form (Whole 0 4294967295) v ≡ is_of_form Limit v
+    same None = refl
+    same (Some x) = refl
+
+-- ---- one member after another
+
+goes_on : {A B : Type 0} (a : Option A) (f : A → Option B) (p q : Bool) → is_some a ≡ p
+    → ((x : A) → is_some (f x) ≡ q) → is_some (a >>= f) ≡ (p && q)
+goes_on None f p q there behind = ap (λ b. b && q) there
+goes_on (Some x) f p q there behind = behind x ∙ ap (λ b. b && q) there
+
+happens : (event : Option _) → is_some (option_map Happens event) ≡ is_some event
+happens None = refl
+happens (Some event) = refl
+
+-- ---- one word after another
+
+-- a value, or else another, is there exactly if these members are, or else others
+choose : {A : Type 0} (b : Bool) (x y : Option A) (m n : Option (List MemberValue)) (policy : Bool)
+    (d : Data) → (b ≡ true → is_some x ≡ has_these policy m d)
+    → (b ≡ false → is_some y ≡ has_these policy n d)
+    → is_some (if b then x else y) ≡ has_these policy (if b then m else n) d
+choose true x y m n policy d holds fails = holds refl
+choose false x y m n policy d holds fails = fails refl
+
+abbrev policy_of : List ℕ → Data → Bool
+policy_of word d = if bytes_eq word (codes "ask") then is_some (options_in d) else true
+
+-- no policy is looked at
+free : (word : List ℕ) (members : List MemberValue) (d : Data) (found : Bool)
+    → bytes_eq word (codes "ask") ≡ false → found ≡ has_members members d
+    → found ≡ has_these (policy_of word d) (Some members) d
+free word members d found other is =
+    is ∙ ap (λ b. (if b then is_some (options_in d) else true) && has_members members d) (sym other)
+
+shown_is_not_asked : (word : List ℕ) → bytes_eq word (codes "show") ≡ true
+    → bytes_eq word (codes "ask") ≡ false
+shown_is_not_asked word is =
+    ap (λ w. bytes_eq w (codes "ask")) ((bytes_eq-Decides word (codes "show")).0 is)
+
+long_there : (name : List ℕ) (d : Data)
+    → is_some (long_at name d) ≡ is_of_form long_form (get name d)
+long_there = whole_there 0 4294967295
+
+short_there : (name : List ℕ) (d : Data)
+    → is_some (short_at name d) ≡ is_of_form short_form (get name d)
+short_there = whole_there 0 65535
+
+byte_there : (name : List ℕ) (d : Data)
+    → is_some (byte_at name d) ≡ is_of_form byte_form (get name d)
+byte_there = whole_there 0 255
+
+traffic_formed : (word : List ℕ) (d : Data) → bytes_eq word (codes "ask") ≡ false
+    → is_some (traffic_event word d) ≡ has_these (policy_of word d)
+    (if bytes_eq word (codes "turn") then Some packet_members
+    else if bytes_eq word (codes "lose") then Some packet_members
+    else if bytes_eq word (codes "alter") then Some alter_members
+    else if bytes_eq word (codes "cut") then Some interface_members
+    else if bytes_eq word (codes "mend") then Some interface_members
+    else None) d
+unfolding traffic_event
+traffic_formed word d other =
+    choose (bytes_eq word (codes "turn")) _ _ _ _ (policy_of word d) d
+    (λ _. free word packet_members d _ other
+    (goes_on _ _ _ _ (long_there (codes "packet") d) (λ _. refl)))
+    (λ _. choose (bytes_eq word (codes "lose")) _ _ _ _ (policy_of word d) d
+    (λ _. free word packet_members d _ other
+    (goes_on _ _ _ _ (long_there (codes "packet") d) (λ _. refl)))
+    (λ _. choose (bytes_eq word (codes "alter")) _ _ _ _ (policy_of word d) d
+    (λ _. free word alter_members d _ other
+    (goes_on _ _ _ _ (long_there (codes "packet") d)
+    (λ _. goes_on _ _ _ _ (long_there (codes "at") d)
+    (λ _. goes_on _ _ _ _ (byte_there (codes "xor") d) (λ _. refl)))))
+    (λ _. choose (bytes_eq word (codes "cut")) _ _ _ _ (policy_of word d) d
+    (λ _. free word interface_members d _ other
+    (goes_on _ _ _ _ (address_there (codes "ia") d)
+    (λ _. goes_on _ _ _ _ (short_there (codes "if") d) (λ _. refl))))
+    (λ _. choose (bytes_eq word (codes "mend")) _ _ _ _ (policy_of word d) d
+    (λ _. free word interface_members d _ other
+    (goes_on _ _ _ _ (address_there (codes "ia") d)
+    (λ _. goes_on _ _ _ _ (short_there (codes "if") d) (λ _. refl))))
+    (λ _. refl)))))
+
+plain_formed : (word : List ℕ) (d : Data) → bytes_eq word (codes "ask") ≡ false
+    → is_some (plain_event word d) ≡ has_these (policy_of word d)
+    (if bytes_eq word (codes "tick") then Some tick_members
+    else if bytes_eq word (codes "originate") then Some originate_members
+    else if bytes_eq word (codes "extend") then Some extend_members
+    else if bytes_eq word (codes "terminate") then Some terminate_members
+    else if bytes_eq word (codes "sweep") then Some []
+    else if bytes_eq word (codes "turn") then Some packet_members
+    else if bytes_eq word (codes "lose") then Some packet_members
+    else if bytes_eq word (codes "alter") then Some alter_members
+    else if bytes_eq word (codes "cut") then Some interface_members
+    else if bytes_eq word (codes "mend") then Some interface_members
+    else None) d
+unfolding plain_event
+plain_formed word d other =
+    choose (bytes_eq word (codes "tick")) _ _ _ _ (policy_of word d) d
+    (λ _. free word tick_members d _ other
+    (goes_on _ _ _ _ (long_there (codes "now") d) (λ _. refl)))
+    (λ _. choose (bytes_eq word (codes "originate")) _ _ _ _ (policy_of word d) d
+    (λ _. free word originate_members d _ other
+    (goes_on _ _ _ _ (address_there (codes "ia") d)
+    (λ _. goes_on _ _ _ _ (short_there (codes "egress") d)
+    (λ _. goes_on _ _ _ _ (short_there (codes "beta0") d) (λ _. refl)))))
+    (λ _. choose (bytes_eq word (codes "extend")) _ _ _ _ (policy_of word d) d
+    (λ _. free word extend_members d _ other
+    (goes_on _ _ _ _ (long_there (codes "beacon") d)
+    (λ _. goes_on _ _ _ _ (address_there (codes "ia") d)
+    (λ _. goes_on _ _ _ _ (short_there (codes "egress") d) (λ _. refl)))))
+    (λ _. choose (bytes_eq word (codes "terminate")) _ _ _ _ (policy_of word d) d
+    (λ _. free word terminate_members d _ other
+    (goes_on _ _ _ _ (long_there (codes "beacon") d)
+    (λ _. goes_on _ _ _ _ (address_there (codes "ia") d) (λ _. refl))))
+    (λ _. choose (bytes_eq word (codes "sweep")) _ _ _ _ (policy_of word d) d
+    (λ _. free word [] d _ other refl)
+    (λ _. traffic_formed word d other)))))
+
+event_formed : (word : List ℕ) (d : Data)
+    → is_some (event_in word d) ≡ has_these (policy_of word d)
+    (if bytes_eq word (codes "ask") then Some ask_members
+    else if bytes_eq word (codes "send") then Some send_members
+    else if bytes_eq word (codes "back") then Some back_members
+    else if bytes_eq word (codes "rotate") then Some rotate_members
+    else if bytes_eq word (codes "tick") then Some tick_members
+    else if bytes_eq word (codes "originate") then Some originate_members
+    else if bytes_eq word (codes "extend") then Some extend_members
+    else if bytes_eq word (codes "terminate") then Some terminate_members
+    else if bytes_eq word (codes "sweep") then Some []
+    else if bytes_eq word (codes "turn") then Some packet_members
+    else if bytes_eq word (codes "lose") then Some packet_members
+    else if bytes_eq word (codes "alter") then Some alter_members
+    else if bytes_eq word (codes "cut") then Some interface_members
+    else if bytes_eq word (codes "mend") then Some interface_members
+    else None) d
+unfolding ask_in send_in back_in rotate_in
+event_formed word d =
+    choose (bytes_eq word (codes "ask")) _ _ _ _ (policy_of word d) d
+    (λ is. asked is (goes_on (options_in d) _ _ (has_members ask_members d) refl
+    (λ _. goes_on _ _ _ _ (address_there (codes "src") d)
+    (λ _. goes_on _ _ _ _ (address_there (codes "dst") d)
+    (λ _. goes_on _ _ _ _ (limit_there (codes "limit") d) (λ _. refl))))))
+    (λ other. choose (bytes_eq word (codes "send")) _ _ _ _ (policy_of word d) d
+    (λ _. free word send_members d _ other
+    (goes_on _ _ _ _ (bytes_there (codes "payload") d)
+    (λ _. goes_on _ _ _ _ (long_there (codes "ask") d)
+    (λ _. goes_on _ _ _ _ (long_there (codes "path") d) (λ _. refl)))))
+    (λ _. choose (bytes_eq word (codes "back")) _ _ _ _ (policy_of word d) d
+    (λ _. free word back_members d _ other
+    (goes_on _ _ _ _ (bytes_there (codes "payload") d)
+    (λ _. goes_on _ _ _ _ (long_there (codes "packet") d) (λ _. refl))))
+    (λ _. choose (bytes_eq word (codes "rotate")) _ _ _ _ (policy_of word d) d
+    (λ _. free word rotate_members d _ other
+    (goes_on _ _ _ _ (bytes_there (codes "key") d)
+    (λ _. goes_on _ _ _ _ (address_there (codes "ia") d) (λ _. refl))))
+    (λ _. plain_formed word d other))))
+  where
+    asked : {found : Bool} → bytes_eq word (codes "ask") ≡ true
+        → found ≡ (is_some (options_in d) && has_members ask_members d)
+        → found ≡ has_these (policy_of word d) (Some ask_members) d
+    asked is found = found
+        ∙ ap (λ b. (if b then is_some (options_in d) else true) && has_members ask_members d)
+        (sym is)
+
+pub lines_are_formed : (word : List ℕ) (d : Data)
+    → is_some (line_with_word word d) ≡ is_formed word d
+unfolding line_with_word members_of show_in
+lines_are_formed word d =
+    choose (bytes_eq word (codes "show")) _ _ _ _ (policy_of word d) d
+    (λ is. free word packet_members d _ (shown_is_not_asked word is)
+    (goes_on _ _ _ _ (long_there (codes "packet") d) (λ _. refl)))
+    (λ _. happens (event_in word d) ∙ event_formed word d)
+
+-- ---- topologies
+
+plain_there : (name : List ℕ) (d : Data)
+    → is_some (address_in name d) ≡ is_of_form AsAddress (get name d)
+unfolding address_in text_at
+plain_there name d = of (get name d)
+  where
+    unless : (b : Bool) (ia : ℕ) → is_some (if b then None else Some ia) ≡ not b
+    unless true ia = refl
+    unless false ia = refl
+
+    address : {F : Type 0} (read : Result ℕ F)
+        → is_some (result_ok read >>= (λ ia. if is_wildcard ia then None else Some ia)) ≡ is_plain read
+    address (Ok ia) = unless (is_wildcard ia) ia
+    address (Err fault) = refl
+
+    text_of : (text : Option (List ℕ))
+        → is_some (text >>= (λ t. result_ok (address_at t)
+        >>= (λ ia. if is_wildcard ia then None else Some ia)))
+        ≡ text_passes (λ t. is_plain (address_at t)) text
+    text_of None = refl
+    text_of (Some text) = address (address_at text)
+
+    of : (v : Option Data) → is_some ((v >>= (λ x. as_str x)) >>= (λ t. result_ok (address_at t)
+        >>= (λ ia. if is_wildcard ia then None else Some ia))) ≡ is_of_form AsAddress v
+    of None = refl
+    of (Some x) = text_of (as_str x)
+
+truth_there : (name : List ℕ) (d : Data)
+    → is_some (truth_at name d) ≡ is_of_form Truth (get name d)
+unfolding truth_at
+truth_there name d = of (get name d)
+  where
+    of : (v : Option Data) → is_some (v >>= (λ x. as_bool x)) ≡ is_of_form Truth v
+    of None = refl
+    of (Some x) = refl
+
+kind_there : (name : List ℕ) (d : Data)
+    → is_some (class_at name d) ≡ is_of_form LinkKind (get name d)
+unfolding class_at text_at
+kind_there name d = of (get name d)
+  where
+    either : (core child : Bool)
+        → is_some (if core then Some Core else if child then Some Child else None) ≡ (core || child)
+    either true child = refl
+    either false true = refl
+    either false false = refl
+
+    text_of : (text : Option (List ℕ))
+        → is_some (text >>= (λ t. if bytes_eq t (codes "core") then Some Core
+        else if bytes_eq t (codes "child") then Some Child else None))
+        ≡ text_passes (λ t. bytes_eq t (codes "core") || bytes_eq t (codes "child")) text
+    text_of None = refl
+    text_of (Some text) = either (bytes_eq text (codes "core")) (bytes_eq text (codes "child"))
+
+    of : (v : Option Data) → is_some ((v >>= (λ x. as_str x))
+        >>= (λ t. if bytes_eq t (codes "core") then Some Core
+        else if bytes_eq t (codes "child") then Some Child else None)) ≡ is_of_form LinkKind v
+    of None = refl
+    of (Some x) = text_of (as_str x)
+
+-- bytes of which there are 1 to 64 are a key
+is_a_key : (bytes : List ℕ) → 1 ≤ length bytes → length bytes ≤ 64
+    → is_some (result_ok (key_from bytes)) ≡ true
+unfolding key_from
+is_a_key bytes some few = rw (le-leb _ _ some, le-leb _ _ few) refl
+
+key_there : (name : List ℕ) (d : Data)
+    → is_some (key_at name d) ≡ is_of_form Key (get name d)
+unfolding key_at text_at
+key_there name d = of (get name d)
+  where
+    sized : (text : List ℕ) (least most : Bool) → (least ≡ true → 2 ≤ length text)
+        → (most ≡ true → length text ≤ 128) → (read : Result (List ℕ) _) → decode_of text ≡ read
+        → is_some ((if least && most then result_ok read else None)
+        >>= (λ bytes. result_ok (key_from bytes))) ≡ (least && (most && is_ok read))
+    sized text false most long short read is = refl
+    sized text true false long short read is = refl
+    sized text true true long short (Err fault) is = refl
+    sized text true true long short (Ok bytes) is =
+        let count = (decode_of-ok text bytes is).2 in
+        let two = long refl in
+        let few = short refl in
+        is_a_key bytes (omega (arith, count, two)) (omega (arith, count, few))
+
+    text_of : (text : Option (List ℕ))
+        → is_some (text >>= (λ t. (if nat_le 2 (length t) && nat_le (length t) 128
+        then result_ok (decode_of t) else None) >>= (λ bytes. result_ok (key_from bytes))))
+        ≡ text_passes (λ t. nat_le 2 (length t) && (nat_le (length t) 128 && is_ok (decode_of t))) text
+    text_of None = refl
+    text_of (Some text) =
+        sized text (nat_le 2 (length text)) (nat_le (length text) 128)
+        (leb-true 2 (length text)) (leb-true (length text) 128) (decode_of text) refl
+
+    of : (v : Option Data) → is_some ((v >>= (λ x. as_str x))
+        >>= (λ t. (if nat_le 2 (length t) && nat_le (length t) 128
+        then result_ok (decode_of t) else None) >>= (λ bytes. result_ok (key_from bytes))))
+        ≡ is_of_form Key v
+    of None = refl
+    of (Some x) = text_of (as_str x)
+
+pub ases_are_formed : (d : Data) → is_some (as_entry_at d) ≡ has_members as_members d
+unfolding as_entry_at
+ases_are_formed d =
+    goes_on _ _ _ _ (plain_there (codes "ia") d)
+    (λ _. goes_on _ _ _ _ (truth_there (codes "core") d)
+    (λ _. goes_on _ _ _ _ (whole_there 0 255 (codes "exp") d)
+    (λ _. goes_on _ _ _ _ (key_there (codes "key") d)
+    (λ _. goes_on _ _ _ _ (whole_there 1 64 (codes "routers") d) (λ _. refl)))))
+
+end_there : (name : List ℕ) (d : Data) → is_some (end_at name d) ≡ has_end (get name d)
+unfolding end_at
+end_there name d = of (get name d)
+  where
+    of : (v : Option Data) → is_some {T = End} (v >>= (λ x. address_in (codes "ia") x
+        >>= (λ ia. whole_at 1 65535 (codes "if") x
+        >>= (λ number. whole_at 0 63 (codes "router") x
+        >>= (λ router. Some (record { ia = ia; number = number; router = router })))))) ≡ has_end v
+    of None = refl
+    of (Some x) =
+        goes_on _ _ _ _ (plain_there (codes "ia") x)
+        (λ _. goes_on _ _ _ _ (whole_there 1 65535 (codes "if") x)
+        (λ _. goes_on _ _ _ _ (whole_there 0 63 (codes "router") x) (λ _. refl)))
+
+-- an end is an object
+is_object : (v : Option Data) → has_end v ≡ (is_of_form Object v && has_end v)
+is_object None = refl
+is_object (Some null) = refl
+is_object (Some (boolean _)) = refl
+is_object (Some (number _)) = refl
+is_object (Some (string _)) = refl
+is_object (Some (array _)) = refl
+is_object (Some (object _)) = refl
+
+in_turn : (kind object_a object_b a b : Bool)
+    → (kind && ((object_a && a) && ((object_b && b) && true)))
+    ≡ ((kind && (object_a && (object_b && true))) && ((object_a && a) && (object_b && b)))
+in_turn false object_a object_b a b = refl
+in_turn true false object_b a b = refl
+in_turn true true false true b = refl
+in_turn true true false false b = refl
+in_turn true true true true true = refl
+in_turn true true true true false = refl
+in_turn true true true false b = refl
+
+all_there : (kind : Bool) (a b : Option Data)
+    → (kind && (has_end a && (has_end b && true)))
+    ≡ ((kind && (is_of_form Object a && (is_of_form Object b && true))) && (has_end a && has_end b))
+all_there kind a b =
+    let one = is_of_form Object a in
+    let other = is_of_form Object b in
+    ap (λ x. kind && (x && (has_end b && true))) (is_object a)
+    ∙ ap (λ y. kind && ((one && has_end a) && (y && true))) (is_object b)
+    ∙ in_turn kind one other (has_end a) (has_end b)
+    ∙ ap (λ x. (kind && (one && (other && true))) && (x && (other && has_end b))) (sym (is_object a))
+    ∙ ap (λ y. (kind && (one && (other && true))) && (has_end a && y)) (sym (is_object b))
+
+pub links_are_formed : (d : Data) → is_some (link_at d) ≡ has_link d
+unfolding link_at
+links_are_formed d =
+    goes_on _ _ _ _ (kind_there (codes "kind") d)
+    (λ _. goes_on _ _ _ _ (end_there (codes "a") d)
+    (λ _. goes_on _ _ _ _ (end_there (codes "b") d) (λ _. refl)))
+    ∙ all_there (is_of_form LinkKind (get (codes "kind") d)) (get (codes "a") d) (get (codes "b") d)
+
+-- ---- hexadecimal
+
+not_ok : {E : Type 0} (read : Result (List ℕ) E) → ((bytes : List ℕ) → read ≡ Ok bytes → ⊥)
+    → false ≡ is_ok read
+not_ok (Ok bytes) never = absurd (never bytes refl)
+not_ok (Err fault) never = refl
+
+-- a text of an even number of digits is bytes, and no other is
+pub even_digits : (text : List ℕ) (digits : Bool) → length text % 2 ≡ 0
+    → (IsTrue digits ↔ AllPass is_hex_digit text) → digits ≡ is_ok (decode_of text)
+even_digits text true even are =
+    let read = decode_of-digits text even (are.0 refl) in
+    sym (ap (λ r. is_ok r) read.1)
+even_digits text false even are =
+    not_ok (decode_of text) (λ bytes is. true≢false (sym (are.1 (decode_of-ok text bytes is).1)))
+
+pub odd_length : (text : List ℕ) → (length text % 2 ≡ 0 → ⊥) → false ≡ is_ok (decode_of text)
+odd_length text odd = not_ok (decode_of text) (λ bytes is. odd (decode_of-ok text bytes is).0)
+
+-- ---- the first misfit
+
+pub goes_past : (member : MemberValue) (members : List MemberValue) (d : Data)
+    → has_member member d ≡ true → first_misfit (member ∷ members) d ≡ first_misfit members d
+goes_past member members d has =
+    ap (λ b. if b then first_misfit members d else Some member) has
+
+pub stops_at : (member : MemberValue) (members : List MemberValue) (d : Data)
+    → has_member member d ≡ false → first_misfit (member ∷ members) d ≡ Some member
+stops_at member members d lacks =
+    ap (λ b. if b then first_misfit members d else Some member) lacks
+
+-- an object has all members if there is no first one that it does not have
+pub none_misfits : (members : List MemberValue) (d : Data)
+    → is_some (first_misfit members d) ≡ not (has_members members d)
+none_misfits [] d = refl
+none_misfits (member ∷ members) d = either (has_member member d) (none_misfits members d)
+  where
+    either : (b : Bool) → is_some (first_misfit members d) ≡ not (has_members members d)
+        → is_some (if b then first_misfit members d else Some member)
+        ≡ not (b && has_members members d)
+    either true later = later
+    either false later = refl
+
+-- ---- words
+
+pub words_have_members : list_all (λ word. is_some (members_of word)) line_words ≡ true
+unfolding members_of
+words_have_members = refl
