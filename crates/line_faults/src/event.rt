@@ -2,9 +2,10 @@
 
 use crate::found::{Place, push_misfit, push_place, push_wanted};
 use crate::history::word_of;
-use crate::member::{LineWords, members_of};
+use crate::line_words::LineWords;
 use crate::policy::push_bad_form;
 use crate::said::Said;
+use event_lines::members::members_of;
 use serde_json::Value;
 use std::alloc::AllocError;
 

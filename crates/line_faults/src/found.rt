@@ -1,9 +1,8 @@
 //! What stands at a place of a line, and what is wanted there.
 
-use crate::form::Form;
 use crate::located::{Inward, item_starts, number_from, start_of};
-use crate::member::{Member, first_misfit};
 use crate::said::Said;
+use event_lines::members::{Member, MemberForm, first_misfit};
 use serde_json::Value;
 use std::alloc::{AllocError, Allocator, Global};
 use std::fmt;
@@ -265,13 +264,13 @@ pub(crate) fn push_misfit(
         let steps = place.steps(*why.text.allocator())?;
         note_column(why, place, &steps)?;
         why.push_member(&place)?;
-        push_wanted(why, place, Some(object), &Form::Object)?;
+        push_wanted(why, place, Some(object), &MemberForm::Object)?;
         return Ok(true);
     }
     let Some(Member(name, form)) = first_misfit(object, members) else {
         return Ok(false);
     };
     push_place(why, place, name)?;
-    push_wanted(why, place, object.get(name), &form)?;
+    push_wanted(why, place, object.get(*name), form)?;
     Ok(true)
 }

@@ -3,7 +3,7 @@
 ghost use Rattle.std.specs.Prelude.{◌≡◌};
 ghost use Rattle.line_faults.specs.inner.Following.{cause_of_lack};
 
-use crate::form::Form;
+use event_lines::members::MemberForm;
 use forwarding::PacketLocation;
 use isd_as::{IfId, IsdAs};
 use network_core::Net;
@@ -154,7 +154,7 @@ impl History {
         let (Some(ia), Some(key)) = (address_at(event, "ia"), event.get("key")) else {
             return Ok(());
         };
-        if net.topology().as_info(ia).is_err() || !Form::Key.fits(key) {
+        if net.topology().as_info(ia).is_err() || !MemberForm::Key.fits(key) {
             return Ok(());
         }
         let before = self.key_changes(ia).map(|changes| changes.last);

@@ -1,12 +1,11 @@
 //! Policies of a request: of which form they are not, or where they can't be read.
 
-use crate::form::Form;
 use crate::found::{Place, push_entry, push_misfit, push_place, push_value, push_wanted};
 use crate::history::text_of;
-use crate::member::OPTION;
 use crate::said::Said;
 use crate::sentence::push_sentence;
 use crate::sequence::push_stop;
+use event_lines::members::{MemberForm, weight_member};
 use policy_expr::{Acl, AclText, MAX_ACL_ENTRIES, PolicyFault, Seq};
 use refusal::OrMemory;
 use separators::text::trim;
@@ -32,7 +31,7 @@ pub(crate) fn push_bad_form(
     }
     let Value::Array(options) = options else {
         push_place(why, line, "options")?;
-        push_wanted(why, line, Some(options), &Form::List)?;
+        push_wanted(why, line, Some(options), &MemberForm::Items)?;
         return Ok(true);
     };
     push_bad_option(why, line, options)
@@ -42,7 +41,9 @@ pub(crate) fn push_bad_form(
 fn push_bad_option(why: &mut Said, line: Place<'_>, options: &[Value]) -> Result<bool, AllocError> {
     for (number, option) in options.iter().enumerate() {
         let place = line.item("options", number);
-        if push_misfit(why, place, option, &OPTION[..1])? || push_bad_texts(why, place, option)? {
+        if push_misfit(why, place, option, weight_member())?
+            || push_bad_texts(why, place, option)?
+        {
             return Ok(true);
         }
     }
@@ -68,7 +69,7 @@ fn push_bad_texts(why: &mut Said, place: Place<'_>, policy: &Value) -> Result<bo
         None | Some(Value::String(_)) => Ok(false),
         Some(value) => {
             push_place(why, place, "sequence")?;
-            push_wanted(why, place, Some(value), &Form::Text)?;
+            push_wanted(why, place, Some(value), &MemberForm::Text)?;
             Ok(true)
         }
     }
@@ -79,7 +80,7 @@ fn push_no_text(why: &mut Said, place: Place<'_>, entries: &[Value]) -> Result<b
     for (number, entry) in entries.iter().enumerate() {
         if !entry.is_string() {
             push_entry(why, place, number)?;
-            push_wanted(why, place, Some(entry), &Form::Text)?;
+            push_wanted(why, place, Some(entry), &MemberForm::Text)?;
             return Ok(true);
         }
     }

@@ -1,8 +1,8 @@
 //! Topologies that have not the form of one.
 
 use crate::found::{Place, push_misfit};
-use crate::member::{AS, END, LINK, Member, TOPOLOGY};
 use crate::said::Said;
+use event_lines::members::{Member, as_members, end_members, link_members, topology_members};
 use serde_json::Value;
 use std::alloc::{AllocError, Global};
 
@@ -44,7 +44,7 @@ impl Misfits {
 
     /// Adds what is wrong with the form of a link, or else of its ends.
     fn check_link(&mut self, place: Place<'_>, link: &Value) -> Result<(), AllocError> {
-        if self.check(place, link, &LINK)? {
+        if self.check(place, link, link_members())? {
             self.check_end(place, link, "a")?;
             self.check_end(place, link, "b")?;
         }
@@ -59,7 +59,7 @@ impl Misfits {
         name: &'static str,
     ) -> Result<(), AllocError> {
         if let Some(end) = link.get(name) {
-            let _ = self.check(place.part(name), end, &END)?;
+            let _ = self.check(place.part(name), end, end_members())?;
         }
         Ok(())
     }
@@ -79,9 +79,9 @@ pub(crate) fn bad_fields(
         most,
         misfits: Vec::new(alloc),
     };
-    if found.check(line, topology, &TOPOLOGY)? {
+    if found.check(line, topology, topology_members())? {
         for (number, one) in values_of(topology, "ases").iter().enumerate() {
-            let _ = found.check(line.item("ases", number), one, &AS)?;
+            let _ = found.check(line.item("ases", number), one, as_members())?;
         }
         for (number, link) in values_of(topology, "links").iter().enumerate() {
             found.check_link(line.item("links", number), link)?;

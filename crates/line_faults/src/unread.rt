@@ -2,10 +2,13 @@
 
 use crate::found::{Place, push_name, push_place};
 use crate::history::{address_at, word_of};
-use crate::member::{AS, END, EVENT, LINK, Member, OPTION, POLICY, TOPOLOGY, is_among, members_of};
 use crate::refused::Context;
 use crate::said::Said;
 use crate::topology::values_of;
+use event_lines::members::{
+    Member, as_members, end_members, link_members, members_of, option_members, policy_members,
+    topology_members, word_member,
+};
 use serde_json::Value;
 use std::alloc::{AllocError, Global};
 
@@ -29,6 +32,11 @@ fn add_unread(
     Ok(())
 }
 
+/// Whether a member of this name is among these.
+fn is_among(name: &str, members: &[Member]) -> bool {
+    members.iter().any(|member| member.0 == name)
+}
+
 /// The warning about a member that nobody reads.
 fn unread_warning(alloc: Global, place: Place<'_>, name: &str) -> Result<Said, AllocError> {
     let mut warning = Said::new(alloc);
@@ -46,13 +54,20 @@ pub(crate) fn add_unread_of_topology(
     line: Place<'_>,
     topology: &Value,
 ) -> Result<(), AllocError> {
-    add_unread(alloc, warnings, line, topology, &TOPOLOGY, &[])?;
+    add_unread(alloc, warnings, line, topology, topology_members(), &[])?;
     for (number, one) in values_of(topology, "ases").iter().enumerate() {
-        add_unread(alloc, warnings, line.item("ases", number), one, &AS, &[])?;
+        add_unread(
+            alloc,
+            warnings,
+            line.item("ases", number),
+            one,
+            as_members(),
+            &[],
+        )?;
     }
     for (number, link) in values_of(topology, "links").iter().enumerate() {
         let place = line.item("links", number);
-        add_unread(alloc, warnings, place, link, &LINK, &[])?;
+        add_unread(alloc, warnings, place, link, link_members(), &[])?;
         add_unread_of_end(alloc, warnings, place, link, "a")?;
         add_unread_of_end(alloc, warnings, place, link, "b")?;
     }
@@ -68,7 +83,7 @@ fn add_unread_of_end(
     name: &'static str,
 ) -> Result<(), AllocError> {
     match link.get(name) {
-        Some(end) => add_unread(alloc, warnings, place.part(name), end, &END, &[]),
+        Some(end) => add_unread(alloc, warnings, place.part(name), end, end_members(), &[]),
         None => Ok(()),
     }
 }
@@ -87,12 +102,12 @@ pub(crate) fn add_unread_of_event(
         return Ok(());
     };
     if word != "ask" {
-        return add_unread(alloc, warnings, line, event, members, &EVENT);
+        return add_unread(alloc, warnings, line, event, members, word_member());
     }
-    add_unread(alloc, warnings, line, event, members, &POLICY)?;
+    add_unread(alloc, warnings, line, event, members, policy_members())?;
     for (number, option) in values_of(event, "options").iter().enumerate() {
         let place = line.item("options", number);
-        add_unread(alloc, warnings, place, option, &OPTION, &[])?;
+        add_unread(alloc, warnings, place, option, option_members(), &[])?;
     }
     add_unlisted(alloc, warnings, line, context, event, "src")?;
     add_unlisted(alloc, warnings, line, context, event, "dst")
