@@ -87,13 +87,13 @@ PROGRAMS = (
     Step("view_words"),
     Step("playground"),
     Step("pictures"),
+    Step("refuse"),
 )
 # What the documents do with the libraries, and what is held to seconds, has the machine alone.
 LAST = (
     Step("documents"),
     Step("growth"),
     Step("requests"),
-    Step("refuse"),
 )
 STAGES: Sequence[Stage] = ([FIRST], [[Step("bindings", minutes=60)], PROGRAMS], [LAST])
 
