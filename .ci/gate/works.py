@@ -3,6 +3,7 @@ from gate import families
 from gate.growing import Bound, Work
 
 # The greatest exponent of what is linear: two sizes, one twice the other, leave so much to chance.
+# Where the larger of two stores no longer lies in a cache, the sizes are one four times the other.
 LINEAR = 1.4
 
 RUN, EXPLAIN = ("scionet", "run"), ("scionet_view", "explain")
