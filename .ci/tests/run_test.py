@@ -4,7 +4,7 @@ import contextlib
 import io
 import os
 import sys
-import time
+import tempfile
 import unittest
 from collections.abc import Sequence
 from pathlib import Path
@@ -33,6 +33,12 @@ def ended(steps: Sequence[Step], is_strict: bool = False) -> tuple[str, int]:
         return run_all([[steps]], Minutes(os.getpid()), is_strict)
 
 
+def waiting(path: str, first: str, then: str) -> Python:
+    """A step that runs the first line, waits for a file, and runs the other."""
+    return Python(f"import os, time\n{first}\n"
+                  f"while not os.path.exists('{path}'): time.sleep(0.01)\n{then}")
+
+
 WELL, NODE = Python("print('a: 3 wrong of 3')"), Python("print('b: 1; skipped: node, zsh')")
 
 
@@ -46,7 +52,7 @@ class Runs(unittest.TestCase):
                     Minutes(os.getpid()), is_strict=False)
         first, second, third = out.getvalue().splitlines()
         self.assertEqual(first, "a: 1")
-        self.assertRegex(second, r"^gate: print\('a: 1'\): [01] s$")
+        self.assertRegex(second, r"^gate: print\('a: 1'\): \d+ s$")
         self.assertRegex(third, r"^gate: import time.*: [1-9]\d* s$")
 
     def test_what_is_skipped(self) -> None:
@@ -66,23 +72,26 @@ class Runs(unittest.TestCase):
         self.assertRegex(line, "^gate: step 2 of 3, .*: status 3$")
 
     def test_side_by_side(self) -> None:
-        """Lanes run at the same time, and what follows them begins behind both."""
-        waits = [Python(f"import time; time.sleep(1); print('{it}: 1')") for it in "ab"]
-        with contextlib.redirect_stdout(io.StringIO()) as out:
-            begun = time.monotonic()
-            ended = run_all([[[waits[0]], [waits[1]]], [[Python("print('c: 1')")]]],
-                            Minutes(os.getpid()), is_strict=False)
-            took = time.monotonic() - begun
+        """Lanes run at the same time, and what follows them begins behind both: each of the two
+        ends only once the other has begun."""
+        with tempfile.TemporaryDirectory() as folder:
+            meets = [waiting(f"{folder}/{met}", f"open('{folder}/{it}', 'w')", f"print('{it}: 1')")
+                     for it, met in ("ab", "ba")]
+            with mock.patch.object(run, "MINUTE", 2), \
+                    contextlib.redirect_stdout(io.StringIO()) as out:
+                ended = run_all([[[meets[0]], [meets[1]]], [[Python("print('c: 1')")]]],
+                                Minutes(os.getpid()), is_strict=False)
         self.assertEqual(ended, ("gate: 3 steps, 0 failed", 0))
-        self.assertLess(took, 1.9)
         self.assertEqual(out.getvalue().splitlines()[-2], "c: 1")
 
     def test_a_fault_in_a_lane(self) -> None:
         """The fault is told by its number; no lane goes on, and no later stage begins."""
-        late = [Python("import time; time.sleep(1)"), Python("print('not run')")]
-        stages = [[[NODE, Python("import sys; sys.exit(3)")], late], [[WELL]]]
-        with contextlib.redirect_stdout(io.StringIO()) as out:
-            line, status = run_all(stages, Minutes(os.getpid()), is_strict=False)
+        with tempfile.TemporaryDirectory() as folder:
+            fails = Python(f"import sys; open('{folder}/fails', 'w'); sys.exit(3)")
+            late = [waiting(f"{folder}/fails", "pass", "time.sleep(2)"), Python("print('not run')")]
+            with contextlib.redirect_stdout(io.StringIO()) as out:
+                line, status = run_all([[[NODE, fails], late], [[WELL]]], Minutes(os.getpid()),
+                                       is_strict=False)
         self.assertEqual(status, 1)
         self.assertRegex(line, "^gate: step 2 of 5, .*: status 3$")
         self.assertNotIn("not run", out.getvalue())
