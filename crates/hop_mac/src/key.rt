@@ -1,4 +1,6 @@
-ghost use Rattle.std.specs.Prelude.{◌≡◌, ⊤, ◌≤◌, ◌++◌, length, map, take, drop, replicate};
+ghost use Rattle.std.specs.Prelude.{◌≡◌, ⊤, ℕ, List, ◌≤◌, ◌++◌, length, map, take, drop, replicate};
+ghost use Rattle.sha2.specs.Hashers.{Holds256};
+ghost use Rattle.sha2.specs.Sha256.{sha256};
 ghost use Rattle.hop_mac.specs.Hmac.{hmac_under, masked_bytes, padded_key};
 ghost use Rattle.hop_mac.specs.Hop.{authenticator_under};
 
@@ -46,8 +48,8 @@ impl Clone for MacKey {
     fn clone(&self) -> Result<MacKey, AllocError> {
         Ok(MacKey {
             block: self.block,
-            inner: clone_hasher(&self.inner),
-            outer: clone_hasher(&self.outer),
+            inner: self.inner.clone()?,
+            outer: self.outer.clone()?,
         })
     }
 }
@@ -74,11 +76,8 @@ impl MacKey {
     pub fn mac(&self, text: &[u8]) -> [u8; 32]
         ensures { result ≡ hmac_under self.now text.now }
     {
-        let mut inner = clone_hasher(&self.inner);
-        inner.update(text);
-        let mut outer = clone_hasher(&self.outer);
-        outer.update(inner.finalize().as_slice());
-        outer.finalize()
+        let inner = digest_behind(&self.inner, text);
+        digest_behind(&self.outer, inner.as_slice())
     }
 
     /// The authenticator of a hop under this key, as [`hop_mac`](crate::hop_mac) returns it.
@@ -108,11 +107,14 @@ fn first_six(code: &[u8; 32]) -> [u8; 6]
     [code[0], code[1], code[2], code[3], code[4], code[5]]
 }
 
-/// A copy of this hash state; it takes no memory.
-fn clone_hasher(hasher: &Sha256) -> Sha256
-    ensures { result ≡ hasher.now }
+/// The digest of a message that goes on with this text behind what the hash state holds.
+#[inline(always)]
+fn digest_behind(state: &Sha256, text: &[u8]) -> [u8; 32]
+    ensures { (front : List ℕ) → Holds256 state.now front → result ≡ sha256 (front ++ text.now) }
 {
-    hasher.clone().unwrap()
+    let mut hasher = state.clone().unwrap();
+    hasher.update(text);
+    hasher.finalize()
 }
 
 /// The key, filled up with zeros to a block of 64 bytes.
