@@ -21,6 +21,10 @@ address_of isd as_number = isd * 2 ^ 48 + as_number
 abbrev pub IsWildcard : ℕ → Type 0
 IsWildcard address = (isd_of address ≡ 0) ⊎ (as_number_of address ≡ 0)
 
+-- the number is the wanted one, or the wildcard 0 is wanted
+abbrev pub Fits : (wanted number : ℕ) → Type 0
+Fits wanted number = (wanted ≡ 0) ⊎ (wanted ≡ number)
+
 -- the sign between the ISD and the AS number, '-'
 abbrev pub dash : ℕ
 dash = 45

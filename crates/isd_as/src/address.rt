@@ -3,7 +3,7 @@ ghost use Rattle.std.specs.Cmp.Rules.{comparing, hashing};
 ghost use Rattle.std.specs.Hash as fed;
 ghost use Rattle.std.specs.Int.{w64, to_be_bytes, from_be_bytes};
 ghost use Rattle.std.specs.Ordering.{nat_cmp};
-ghost use Rattle.isd_as.specs.Address.{address_of, isd_of, as_number_of, IsWildcard};
+ghost use Rattle.isd_as.specs.Address.{address_of, isd_of, as_number_of, IsWildcard, Fits};
 ghost use Rattle.std.proofs.Common.{rules};
 ghost use Rattle.std.proofs.lemmas.Nat.{div-mul-add, mod-mul-add};
 
@@ -84,6 +84,48 @@ impl IsdAs {
         ensures { IsTrue result ↔ IsWildcard self }
     {
         self.isd().is_wildcard() || self.as_number().is_wildcard()
+    }
+
+    /// Whether its ISD and its AS number are the wanted ones, where the wildcard 0 is wanted for any.
+    // A hop is tried with many addresses, most of which the lower halves tell apart. So these come
+    // first, and alone.
+    pub fn fits(self, wanted: IsdAs) -> bool
+        ensures { IsTrue result ↔ (Fits (isd_of wanted) (isd_of self)
+            × Fits (as_number_of wanted) (as_number_of self)) }
+    {
+        if wanted.low == self.low {
+            return self.fits_above(wanted);
+        }
+        wanted.low == 0 && (wanted.high == 0 || self.fits_any(wanted))
+    }
+
+    /// The same, for a wanted address with the same lower half.
+    fn fits_above(self, wanted: IsdAs) -> bool
+        requires { wanted % 2 ^ 32 ≡ self % 2 ^ 32 }
+        ensures { IsTrue result ↔ (Fits (isd_of wanted) (isd_of self)
+            × Fits (as_number_of wanted) (as_number_of self)) }
+    {
+        let number = wanted.high % (1 << 16);
+        let is_any = wanted.low == 0 && number == 0;
+        (number == self.high % (1 << 16) || is_any) && self.fits_isd(wanted)
+    }
+
+    /// The same, for a wanted address with the lower half 0, where this one has another.
+    fn fits_any(self, wanted: IsdAs) -> bool
+        requires any { wanted % 2 ^ 32 ≡ 0 }
+        requires other { 0 < self % 2 ^ 32 }
+        ensures { IsTrue result ↔ (Fits (isd_of wanted) (isd_of self)
+            × Fits (as_number_of wanted) (as_number_of self)) }
+    {
+        wanted.high % (1 << 16) == 0 && self.fits_isd(wanted)
+    }
+
+    /// Whether its ISD is the wanted one.
+    fn fits_isd(self, wanted: IsdAs) -> bool
+        ensures { IsTrue result ↔ Fits (isd_of wanted) (isd_of self) }
+    {
+        let isd = wanted.high >> 16;
+        isd == 0 || isd == self.high >> 16
     }
 
     /// The address as 8 bytes, the highest first.

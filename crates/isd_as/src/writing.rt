@@ -41,11 +41,7 @@ impl fmt::Display for IsdAs {
         // Its range, by which the text is ASCII, is known once the number is read.
         let _number = self.number();
         let text = self.text();
-        match str::from_utf8(&text) {
-            Ok(text) => f.write_str(text),
-            // An address is written in ASCII.
-            Err(_) => unreachable!(),
-        }
+        f.write_str(str::from_utf8(&text).unwrap())
     }
 }
 

@@ -1,14 +1,10 @@
 -- Hop predicates (path policy language): which hops an `ISD-AS#IN,OUT` matches. 0 is the wildcard.
-use Rattle.std.specs.Prelude.{◌≡◌, ◌⊎◌, ℕ}
-use Rattle.isd_as.specs.Address.{isd_of, as_number_of}
+use Rattle.std.specs.Prelude.{◌⊎◌}
+use Rattle.isd_as.specs.Address.{isd_of, as_number_of, Fits}
 use Rattle.policy_expr.specs.declared.hop.HopPred.{HopPred}
 use Rattle.policy_expr.specs.declared.hop.Interfaces.{Interfaces}
 use Rattle.policy_expr.specs.declared.hop.Interfaces.TheVariants.{Any, Either, Both}
 use Rattle.policy_expr.specs.declared.hop.WalkHop.{WalkHop}
-
--- the number is the wanted one, or the wildcard is wanted
-abbrev pub Fits : (wanted number : ℕ) → Type 0
-Fits wanted number = (wanted ≡ 0) ⊎ (wanted ≡ number)
 
 -- the hop has these interfaces; a single number may be its way in or its way out
 abbrev pub FitsInterfaces : Interfaces → WalkHop → Type 0

@@ -26,13 +26,9 @@ fn decider_of(entries: &[AclEntry], hop: &WalkHop) -> usize
     ensures decides { (entry : AclEntry) × Decides entries.now hop.now result entry }
     ensures within { result < length entries.now }
 {
-    for (place, entry) in entries.iter().enumerate() {
-        if does_match(entry, hop) {
-            return place;
-        }
-    }
     // The last entry matches every hop.
-    unreachable!()
+    let decider = entries.iter().position(|entry| does_match(entry, hop));
+    decider.unwrap()
 }
 
 /// Whether the entry matches the hop; an entry without a predicate matches every hop.

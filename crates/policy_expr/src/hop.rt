@@ -1,5 +1,6 @@
 ghost use Rattle.std.specs.Prelude.{◌≡◌, ◌⊎◌, ◌↔◌, IsTrue};
-ghost use Rattle.policy_expr.specs.Hop.{Fits, FitsInterfaces, Matches};
+ghost use Rattle.isd_as.specs.Address.{Fits};
+ghost use Rattle.policy_expr.specs.Hop.{FitsInterfaces, Matches};
 
 use isd_as::{IfId, IsdAs};
 
@@ -40,9 +41,7 @@ impl HopPred {
     pub fn matches(&self, hop: &WalkHop) -> bool
         ensures { IsTrue result ↔ Matches self.now hop.now }
     {
-        fits(self.ia.as_number().number(), hop.ia.as_number().number())
-            && fits(self.ia.isd().number().into(), hop.ia.isd().number().into())
-            && self.interfaces.fit(hop)
+        hop.ia.fits(self.ia) && self.interfaces.fit(hop)
     }
 }
 

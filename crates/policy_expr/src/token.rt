@@ -88,12 +88,8 @@ fn token_of_run(run: &[u8]) -> Token
     requires { IsAscii run.now }
     ensures { result ≡ read_token (predicate_at run.now) }
 {
-    match str::from_utf8(run) {
-        Ok(text) => match HopPred::parse(text) {
-            Ok(pred) => Token::Hop(pred),
-            Err(_) => Token::Other,
-        },
-        // A run is cut at ASCII letters, of a text that is ASCII.
-        Err(_) => unreachable!(),
+    match HopPred::parse(str::from_utf8(run).unwrap()) {
+        Ok(pred) => Token::Hop(pred),
+        Err(_) => Token::Other,
     }
 }

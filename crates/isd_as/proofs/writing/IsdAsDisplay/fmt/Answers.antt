@@ -1,10 +1,11 @@
 -- The canonical text is ASCII, so the standard reader of texts never refuses it.
-use Rattle.std.proofs.Common.{ℕ, ◌^◌, ◌<◌, subst, sym, ◌∙◌}
+use Rattle.std.proofs.Common.{rules, ℕ, ◌^◌, ◌<◌, subst, sym, ◌∙◌}
 use Rattle.std.specs.Str.{IsUtf8}
 use Rattle.isd_as.proofs.Ascii.{canonical_is_utf8}
 use Rattle.isd_as.proofs.writing.IsdAsDisplay.fmt.Goals as goal
 
-pub unreachable-requires : goal.unreachable-requires
-unreachable-requires g c =
+pub unwrap-requires : goal.unwrap-requires
+unwrap-requires g c =
     let fits = subst (λ (n : ℕ). n < 2 ^ 64) c.number-number.ensures.value c.number-number.ensures.bound in
-    c.in-Err.ensures.cases.0 (subst IsUtf8 (sym (c.deref.ensures.0 ∙ c.text-text.ensures)) (canonical_is_utf8 c.args.self.now fits))
+    let utf8 : IsUtf8 c.deref.result.now = subst IsUtf8 (sym (c.deref.ensures.0 ∙ c.text-text.ensures)) (canonical_is_utf8 c.args.self.now fits) in
+    search rules
