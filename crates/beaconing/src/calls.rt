@@ -34,12 +34,8 @@ pub fn originate(
     let (kind, entry) = first_entry(topology, ia, egress, timestamp, beta0).map_err(
         OrMemory::Refused,
     )?;
-    match Beacon::first(alloc, kind, timestamp, beta0, entry) {
-        Ok(beacon) => Ok(beacon),
-        Err(OrMemory::Memory) => Err(OrMemory::Memory),
-        // The entry was judged when it was made.
-        Err(OrMemory::Refused(_)) => unreachable!(),
-    }
+    // The entry was judged when it was made, so only memory can be missing.
+    Beacon::first(alloc, kind, timestamp, beta0, entry).map_err(|_| OrMemory::Memory)
 }
 
 /// The beacon after the AS in which it arrived has passed it on over one of its links.
@@ -60,12 +56,10 @@ pub fn extend(
     ensures { Answers (λ made. made) result (extended_beacon topology.now beacon.now ia egress) }
 {
     let entry = next_entry(topology, beacon, ia, egress).map_err(OrMemory::Refused)?;
-    match beacon.with_entry(alloc, entry) {
-        Ok(beacon) => Ok(beacon),
-        Err(OrMemory::Memory) => Err(OrMemory::Memory),
-        // The entry was judged when it was made.
-        Err(OrMemory::Refused(_)) => unreachable!(),
-    }
+    // As in `originate`, the entry was judged.
+    beacon
+        .with_entry(alloc, entry)
+        .map_err(|_| OrMemory::Memory)
 }
 
 /// The segment that a beacon becomes if it ends in the AS in which it arrived.
@@ -82,12 +76,8 @@ pub fn terminate(
     ensures { Answers (λ made. made) result (terminated_beacon topology.now beacon.now ia) }
 {
     let entry = last_entry(topology, beacon, ia).map_err(OrMemory::Refused)?;
-    match beacon.finish(alloc, entry) {
-        Ok(segment) => Ok(segment),
-        Err(OrMemory::Memory) => Err(OrMemory::Memory),
-        // The entry was judged when it was made.
-        Err(OrMemory::Refused(_)) => unreachable!(),
-    }
+    // As in `originate`, the entry was judged.
+    beacon.finish(alloc, entry).map_err(|_| OrMemory::Memory)
 }
 
 /// The kind of a new beacon, and its first entry.

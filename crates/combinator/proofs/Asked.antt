@@ -6,11 +6,11 @@ use Rattle.policy_expr.specs.Policy.{AllowsHops, HasWord, Rules}
 use Rattle.path_verifier.specs.Piece.{PieceValue}
 use Rattle.path_verifier.specs.Header.{header_of}
 use Rattle.path_verifier.specs.Walk.{walk_of}
-use Rattle.path_verifier.specs.Accepted.{MakesPath, request_of, IsRefused}
+use Rattle.path_verifier.specs.Accepted.{MakesPath, request_of, IsAccepted, IsRefused}
 use Rattle.path_verifier.specs.declared.fault.VerifyFault.{VerifyFault}
 use Rattle.path_verifier.proofs.Breaches.{accepts, hops_kept, word_kept, refused_is_not_accepted}
 use Rattle.combinator.specs.Candidate.{Question, PathValue, IsCandidate, IsOf, path_with}
-use Rattle.combinator.proofs.Tried.{refused_as_asked}
+use Rattle.combinator.proofs.Tried.{accepted_as_asked}
 
 -- pieces that are refused under each policy are no path
 pub refused_is_no_path : (pieces : List PieceValue) (src dst now : ℕ) (fault : VerifyFault)
@@ -54,11 +54,10 @@ pub allowed_word : (question : Question) (found : PathValue) (walk : List WalkHo
 allowed_word question found walk rules is as_asked candidate =
     subst (HasWord rules.sequence) (sym is) (subst (λ (r : Rules). HasWord r.sequence (walk_of found.pieces)) (sym as_asked) (word_kept candidate.accepted))
 
--- a candidate is not refused
-pub candidate_not_refused : (question seen : Question) (found : PathValue) (own : List PieceValue) (moment : ℕ) (fault : VerifyFault)
-    → own ≡ found.pieces → seen ≡ question → moment ≡ seen.set.moment
-    → IsRefused (request_of own (header_of own) seen.src seen.dst moment seen.rules) fault
-    → IsCandidate question found → ⊥
-candidate_not_refused question seen found own moment fault same is at refused candidate =
-    refused_as_asked question seen own moment fault is at refused found.header
+-- a candidate is accepted
+pub candidate_is_accepted : (question seen : Question) (found : PathValue) (own : List PieceValue) (moment : ℕ)
+    → own ≡ found.pieces → seen ≡ question → moment ≡ seen.set.moment → IsCandidate question found
+    → IsAccepted (request_of own (header_of own) seen.src seen.dst moment seen.rules)
+candidate_is_accepted question seen found own moment same is at candidate =
+    accepted_as_asked question seen own moment is at found.header
     (subst (λ (ps : List PieceValue). IsCandidate question (path_with ps found.header)) (sym same) candidate)

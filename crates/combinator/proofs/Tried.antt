@@ -11,10 +11,9 @@ use Rattle.path_server.specs.Lookup.{Selection}
 use Rattle.path_server.proofs.Members.{Contains-filter}
 use Rattle.path_verifier.specs.Piece.{PieceValue, HasRange, begins_in, ends_in}
 use Rattle.path_verifier.specs.Header.{header_of, fields_of, len_of, total_hops}
-use Rattle.path_verifier.specs.declared.fault.VerifyFault.{VerifyFault}
-use Rattle.path_verifier.specs.Accepted.{Request, request_of, DoEndIn, IsAccepted, IsRefused}
+use Rattle.path_verifier.specs.Accepted.{Request, request_of, DoEndIn, IsAccepted}
 use Rattle.path_verifier.proofs.Headers.{length_fields_of}
-use Rattle.path_verifier.proofs.Breaches.{header_kept, refused_is_not_accepted}
+use Rattle.path_verifier.proofs.Breaches.{header_kept}
 use Rattle.combinator.specs.Candidate.{Question, IsOf, PathValue, IsCandidate, path_with}
 use Rattle.combinator.specs.Order.{path_cmp, shown_cmp}
 use Rattle.combinator.specs.Answer.{IsBest}
@@ -247,15 +246,12 @@ found_as_asked question seen pieces moment path found is at own accepted made =
     let same = same_request question seen pieces moment is at in
     candidate_of question pieces path found own (accepted.0 ∙ same) (subst IsAccepted same accepted.1) made
 
--- and what was refused for what was asked is none, with any header
-pub refused_as_asked : (question seen : Question) (pieces : List PieceValue) (moment : ℕ) (fault : VerifyFault)
+-- and the verifier accepts what was asked, with the header that the pieces give
+pub accepted_as_asked : (question seen : Question) (pieces : List PieceValue) (moment : ℕ)
     → seen ≡ question → moment ≡ seen.set.moment
-    → IsRefused (request_of pieces (header_of pieces) seen.src seen.dst moment seen.rules) fault
-    → (header : HeaderValue) → IsCandidate question (path_with pieces header) → ⊥
-refused_as_asked question seen pieces moment fault is at refused header candidate =
-    let accepted = subst
+    → (header : HeaderValue) → IsCandidate question (path_with pieces header)
+    → IsAccepted (request_of pieces (header_of pieces) seen.src seen.dst moment seen.rules)
+accepted_as_asked question seen pieces moment is at header candidate =
+    subst IsAccepted (sym (same_request question seen pieces moment is at)) (subst
     (λ (own : HeaderValue). IsAccepted (request_of pieces own question.src question.dst question.set.moment question.rules))
-    (header_kept candidate.accepted) candidate.accepted in
-    refused_is_not_accepted _ fault
-    (subst (λ (request : Request). IsRefused request fault) (same_request question seen pieces moment is at) refused)
-    accepted
+    (header_kept candidate.accepted) candidate.accepted)

@@ -135,10 +135,8 @@ impl KeptPath {
         let mut pieces = Pieces::new();
         for placed in self.pieces.as_slice() {
             if let Some(piece) = placed.piece_in(set) {
-                let Ok(()) = pieces.push(piece) else {
-                    // A kept path has at most three pieces.
-                    unreachable!()
-                };
+                // A kept path has at most three pieces.
+                pieces.push(piece).unwrap();
             }
         }
         pieces

@@ -38,9 +38,7 @@ pub(crate) fn first_open(
     ensures { IfOk result (TellsFirst (open_paths topology.now.links paths.now)) }
 {
     for place in 0..paths.len() {
-        let Some(path) = paths.get(place) else {
-            unreachable!()
-        };
+        let path = paths.get(place).unwrap();
         let is_up = is_open(alloc, topology, path.walk())?;
         if is_up {
             return Ok(Some(best_path(path)));

@@ -77,9 +77,7 @@ pub(crate) fn open_walks<'w>(
 {
     let mut found = Vec::new(alloc);
     for place in 0..walks.len() {
-        let Some(hops) = walks.get(place) else {
-            unreachable!()
-        };
+        let hops = walks.get(place).unwrap();
         let places = places_crossed(alloc, topology, hops)?;
         if are_up_at(topology.links(), &places) {
             found.push(OpenWalk { hops, places })?;

@@ -27,9 +27,10 @@ pub(crate) fn path_expiry(pieces: &[OwnedPiece]) -> u64
         [] => 0,
         [one] => piece_expiry(one),
         [one, two] => piece_expiry(one).min(piece_expiry(two)),
-        [one, two, three] => { piece_expiry(one).min(piece_expiry(two).min(piece_expiry(three))) }
         // A path has at most three pieces.
-        _ => unreachable!(),
+        [one, two, three, ..] => {
+            piece_expiry(one).min(piece_expiry(two).min(piece_expiry(three)))
+        }
     }
 }
 

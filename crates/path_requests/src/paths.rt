@@ -23,9 +23,8 @@ fn answer(alloc: Global, request: &PathsRequest) -> Result<String, RequestError>
     let (src, dst, limit) = (asked.src, asked.dst, request.limit as usize);
     match combine(alloc, &set, src, dst, &options, limit) {
         Ok(list) => Ok(text::answer(alloc, &asked.segments, &list)?),
-        Err(OrMemory::Memory) => Err(OrMemory::Memory),
-        // The request was judged when it was read.
-        Err(OrMemory::Refused(_)) => unreachable!(),
+        // The request was judged when it was read, so only memory can be missing.
+        Err(_) => Err(OrMemory::Memory),
     }
 }
 

@@ -83,9 +83,8 @@ pub fn lend_all(pieces: &[OwnedPiece]) -> Pieces<'_>
         [] => PieceSlots::Zero,
         [first] => PieceSlots::One(first.lend()),
         [first, second] => PieceSlots::Two(first.lend(), second.lend()),
-        [first, second, third] => PieceSlots::Three(first.lend(), second.lend(), third.lend()),
         // A path has at most three pieces.
-        _ => unreachable!(),
+        [first, second, third, ..] => PieceSlots::Three(first.lend(), second.lend(), third.lend()),
     };
     Pieces { held }
 }

@@ -51,9 +51,7 @@ pub extern "C" fn scion_header_reverse(bytes: &mut [u8]) -> ScionAnswer
     path_header::laws::reversed_twice();
     header.reverse();
     header.known();
-    match encode(&header, bytes) {
-        Ok(_) => answer,
-        // It is as long as the header that was read there.
-        Err(_) => unreachable!(),
-    }
+    // It is as long as the header that was read there.
+    encode(&header, bytes).unwrap();
+    answer
 }

@@ -96,10 +96,7 @@ impl HostAddress {
         ensures { result ≡ record { kind = kind; bytes = bytes.now } }
     {
         let mut cells = ArrayVec::new();
-        match cells.try_extend_from_slice(bytes) {
-            Ok(()) => {}
-            Err(_) => unreachable!(),
-        }
+        cells.try_extend_from_slice(bytes).unwrap();
         HostAddress { kind, bytes: cells }
     }
 

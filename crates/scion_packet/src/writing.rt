@@ -139,8 +139,5 @@ fn put_header(header: &Header, room: &mut [u8])
     requires { length room.old ≡ header_len header.now }
     ensures { SpellsHeader room.new header.now }
 {
-    match encode(header, room) {
-        Ok(_) => {}
-        Err(_) => unreachable!(),
-    }
+    encode(header, room).unwrap();
 }

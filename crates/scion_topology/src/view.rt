@@ -16,7 +16,7 @@ use std::marker::Model;
 ///
 /// Invariants of the type: the address is no wildcard, each key has 1 to 64 bytes, and each
 /// interface is listed once and has a number other than 0. The view of a topology borrows the hash
-/// states of its keys and a table that is searched. A view from [`RouterView::new`] computes the
+/// states of its keys and the table of its interfaces. A view from [`RouterView::new`] computes the
 /// states once, and borrows the interfaces as they are given.
 #[derive(Drop)]
 pub struct RouterView<'a> {
@@ -137,8 +137,9 @@ impl<'a> RouterView<'a> {
         }
     }
 
-    /// The interface of this number, if the AS has one. The view of a topology searches a tree for
-    /// it; a view from [`RouterView::new`] goes through its list.
+    /// The interface of this number, if the AS has one. The view of a topology goes through up to
+    /// eight interfaces, and searches a tree for one of more; a view from [`RouterView::new`] goes
+    /// through its list.
     // Inlined, as all of a router's step.
     #[inline(always)]
     pub fn entry(&self, number: IfId) -> Option<&'a IfEntry>

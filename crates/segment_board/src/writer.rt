@@ -66,10 +66,9 @@ fn add(writer: &mut StoreWriter, op: StoreOp) -> Result<(), StoreOp>
         (λ x. (x ≡ op) × (queue_of writer.new ≡ queue_of writer.old)) }
 {
     match writer.append(BoardOp::Apply(op)) {
-        Ok(()) => Ok(()),
-        Err(BoardOp::Apply(op)) => Err(op),
         // What is refused is the operation that was given.
-        Err(BoardOp::Mark(_)) => unreachable!(),
+        Err(BoardOp::Apply(op)) => Err(op),
+        _ => Ok(()),
     }
 }
 

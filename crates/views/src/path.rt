@@ -117,10 +117,7 @@ fn path_of(sent: &Sent) -> VerifiedPath<'_, '_, Global>
         0,
         sent.policy(),
     );
-    match verified {
-        Ok(path) => path,
-        Err(_) => unreachable!(),
-    }
+    verified.unwrap()
 }
 
 /// What is said of the path of a packet and then its fields, if there is one.

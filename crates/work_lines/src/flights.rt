@@ -5,7 +5,6 @@ ghost use Rattle.network_core.specs.Delivery.{AllMayDepart, MayDepart};
 ghost use Rattle.work_lines.specs.Report.{AreFlights, IsFlightOf};
 
 use network_core::{Net, Sent};
-use refusal::OrMemory;
 use router_workers::Flight;
 use scion_topology::Topology;
 use std::alloc::{AllocError, Global};
@@ -35,10 +34,6 @@ fn flight_of<'a>(
     requires { MayDepart topology.now sent.now }
     ensures { IfOk result (λ flight. IsFlightOf topology.now sent.now flight) }
 {
-    match Flight::new(alloc, topology, sent) {
-        Ok(flight) => Ok(flight),
-        Err(OrMemory::Memory) => Err(AllocError),
-        // The network judged the shipment when it was sent.
-        Err(OrMemory::Refused(_)) => unreachable!(),
-    }
+    // The network judged the shipment when it was sent, so only memory can be missing.
+    Flight::new(alloc, topology, sent).map_err(|_| AllocError)
 }

@@ -1,5 +1,5 @@
 -- One walk more, which is open or not.
-use Rattle.std.proofs.Common.{◌≡◌, ◌++◌, ◌∷◌, [], List, Bool, true, false, cond, All, map, take, rules, sym, ap, subst, ◌∙◌}
+use Rattle.std.proofs.Common.{◌≡◌, ◌++◌, ◌∷◌, [], List, Bool, true, false, cond, All, map, option_map, take, rules, sym, ap, subst, ◌∙◌}
 use Rattle.std.proofs.lemmas.List.{map-append}
 use Rattle.std.proofs.lemmas.List.Elements.{All-push}
 use Rattle.policy_expr.specs.declared.hop.WalkHop.{WalkHop}
@@ -15,15 +15,16 @@ use Rattle.path_report.proofs.open_walk.open_walks.Goals.{then-are_up_at+in_ok-p
 pub loop-place-preserved : goal.loop-place-preserved
 loop-place-preserved c =
     let links = c.args.topology.now.links in
-    let hops = c.in-Some.hops.now in
-    let next = walks_next links c.args.walks.now c.loop-place.place hops (sym c.in-Some.ensures) in
+    let hops = c.unwrap-hops.result.now in
+    let there = sym c.get.ensures ∙ ap (λ o. option_map (λ walk. walk.now) o) c.unwrap-hops.ensures in
+    let next = walks_next links c.args.walks.now c.loop-place.place hops there in
     let opens : c.are_up_at.result ≡ is_open links hops =
     c.are_up_at.ensures ∙ ap (λ (ls : List Link). are_up_at ls c.deref.result.now) c.links.ensures
     ∙ ap (are_up_at links) (c.deref.ensures.value ∙ c.in_ok-places.ensures)
     ∙ are_up_where_open links hops in
     elim c.if-are_up_at.branch [
       | then-are_up_at+in_ok-push w ↦ (
-          let one : OpenWalk = record { hops = c.in-Some.hops; places = c.in_ok-places.places } in
+          let one : OpenWalk = record { hops = c.unwrap-hops.result; places = c.in_ok-places.places } in
           let items : c.if-are_up_at.found.items ≡ c.loop-place.found.items ++ one ∷ [] =
           ap (λ found. found.items) w.found-is ∙ w.in_ok-push.ensures.items in
           record {

@@ -1,12 +1,12 @@
-use Rattle.std.proofs.Common.{◌≡◌, ◌+◌, ◌++◌, [], ◌∷◌, List, length, take, ap, sym, ◌∙◌, length-append, arith}
-use Rattle.std.specs.Prelude.{filter_map}
+use Rattle.std.proofs.Common.{◌≡◌, ◌+◌, ◌++◌, [], ◌∷◌, List, length, take, ap, sym, ◌∙◌, subst, length-append, arith}
+use Rattle.std.specs.Prelude.{OnOk, filter_map}
 use Rattle.std.specs.List.{cons_option}
 use Rattle.std.proofs.lemmas.List.{append-nil}
 use Rattle.path_verifier.specs.Piece.{PieceValue}
 use Rattle.daemon_cache.specs.inner.Kept.{piece_in}
 use Rattle.daemon_cache.proofs.KeptPaths.{next_place}
 use Rattle.daemon_cache.proofs.kept.KeptPath.pieces_in.Goals as goal
-use Rattle.daemon_cache.proofs.kept.KeptPath.pieces_in.Goals.{in-Some+in-Ok, in_default}
+use Rattle.daemon_cache.proofs.kept.KeptPath.pieces_in.Goals.{in-Some, in_default}
 
 pub loop-placed-preserved : goal.loop-placed-preserved
 loop-placed-preserved c =
@@ -19,8 +19,9 @@ loop-placed-preserved c =
     (so_far.0 ∙ ap (λ l. filter_map h (take i l)) (sym same)) c.loop-placed-test.true (sym c.piece_in.ensures) in
     let all = ap (λ l. filter_map h (take (i + 1) l)) (sym same) ∙ step in
     elim c.match-piece_in.branch [
-      | in-Some+in-Ok w ↦
-          let more : c.match-piece_in.pieces ≡ pieces ++ w.in-Some.piece ∷ [] = w.pieces-is ∙ w.in-Ok.ensures.ok in
+      | in-Some w ↦
+          let more : c.match-piece_in.pieces ≡ pieces ++ w.in-Some.piece ∷ [] = w.pieces-is
+          ∙ subst (λ r. OnOk r (w.push.new.self ≡ pieces ++ w.in-Some.piece ∷ [])) w.unwrap.ensures w.push.ensures.ok in
           let longer : length c.match-piece_in.pieces ≡ length pieces + 1 =
           ap (λ (l : List PieceValue). length l) more ∙ length-append pieces (w.in-Some.piece ∷ []) in
           (more ∙ (ap (λ o. pieces ++ cons_option o []) (sym w.in-Some.is) ∙ sym all), omega (arith, longer, so_far.1))
