@@ -1,8 +1,9 @@
 -- A flight from turn to turn.
-use Rattle.std.proofs.Common.{◌≡◌, ℕ, ◌+◌, ◌<◌, ◌≤◌, ◌^◌, List, Option, Some, None, Ok, [], ◌∷◌, ◌++◌, length, IsOk, refl, sym, ap, ◌∙◌, subst, arith, inl, inr}
+use Rattle.std.proofs.Common.{◌≡◌, ℕ, ◌+◌, ◌<◌, ◌≤◌, ◌^◌, List, Option, Some, None, Ok, [], ◌∷◌, ◌++◌, length, take, drop, IsOk, refl, sym, ap, ◌∙◌, subst, arith, inl, inr}
 use Rattle.std.specs.Prelude.{nat_lt}
 use Rattle.std.proofs.lemmas.Bool.{cases_Bool, ltb-true}
 use Rattle.std.proofs.lemmas.List.{length-append}
+use Rattle.std.proofs.Math.Seq.{take-append_seam}
 use Rattle.scion_topology.specs.View.{View}
 use Rattle.scion_topology.specs.Network.{Network}
 use Rattle.scion_topology.specs.Rules.{IsNetwork}
@@ -21,7 +22,7 @@ use Rattle.forwarding.specs.declared.location.PacketLocation.{PacketLocation}
 use Rattle.forwarding.specs.declared.location.PacketLocation.TheVariants.{AtRouter, Delivered, Refused, Lost}
 use Rattle.forwarding.specs.Frame.{frame_of, HasFrame}
 use Rattle.forwarding.specs.Journey.{first_out}
-use Rattle.forwarding.specs.Turn.{Packet, with_hop_of_turn, put_at, turn_under, turn_of, turned_packet, after}
+use Rattle.forwarding.specs.Turn.{Packet, packet_with, with_hop_of_turn, put_at, turn_under, turn_of, turned_packet, after}
 use Rattle.forwarding.proofs.Ended.{turn_by_view}
 use Rattle.forwarding.proofs.Reading.{length_fields}
 use Rattle.forwarding.proofs.Bounded.{fewer_before, passed_before, stops_are_there, owners_are_there}
@@ -36,6 +37,19 @@ stop_of (AtRouter stop) is = (stop, refl)
 stop_of Delivered is = absurd is
 stop_of (Refused ia router refusal) is = absurd is
 stop_of Lost is = absurd is
+
+-- ---- the bytes of a packet in their room
+
+-- a packet that was turned in the front of its room has the bytes of the turn there
+pub turned_in_room : (new old : List ℕ) (len : ℕ) (place : PacketLocation)
+    (passed hops : List WalkHop) (turned : Packet) → length new ≡ len → passed ≡ hops
+    → packet_with new place hops ≡ turned
+    → packet_with (take len (new ++ drop (length new) old)) place passed ≡ turned
+turned_in_room new old len place passed hops turned long same is =
+    ap (λ (bytes : List ℕ). packet_with bytes place passed)
+    (ap (λ (k : ℕ). take k (new ++ drop (length new) old)) (sym long)
+    ∙ take-append_seam new (drop (length new) old))
+    ∙ ap (λ (hops : List WalkHop). packet_with new place hops) same ∙ is
 
 -- ---- a flight without any turns
 

@@ -119,11 +119,10 @@ impl<'a> Flight<'a> {
     {
         self.known();
         match self.place() {
-            PacketLocation::AtRouter(stop) => match self.fabric.view(stop.ia, stop.router) {
-                Ok(view) => Some(view),
-                // It is at a router of its network.
-                Err(_) => unreachable!(),
-            },
+            // It is at a router of its network.
+            PacketLocation::AtRouter(stop) => {
+                Some(self.fabric.view(stop.ia, stop.router).unwrap())
+            }
             _ => None,
         }
     }

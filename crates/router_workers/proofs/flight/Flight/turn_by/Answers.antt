@@ -1,9 +1,7 @@
-use Rattle.std.proofs.Common.{◌≡◌, List, ℕ, ◌++◌, length, take, drop, sym, ap, ◌∙◌, subst, arith}
-use Rattle.std.proofs.Math.Seq.{take-append_seam}
-use Rattle.policy_expr.specs.declared.hop.WalkHop.{WalkHop}
+use Rattle.std.proofs.Common.{List, ℕ, sym, ap, ◌∙◌, subst, arith}
 use Rattle.forwarding.specs.Turn.{packet_with, turn_under}
 use Rattle.router_workers.specs.Flight.{FlightValue, IsViewAt, advanced_flight}
-use Rattle.router_workers.proofs.Flying.{at_router, hops_left, flies_by, advanced_by, few_passed}
+use Rattle.router_workers.proofs.Flying.{at_router, hops_left, flies_by, advanced_by, few_passed, turned_in_room}
 use Rattle.router_workers.proofs.flight.Flight.turn_by.Goals as goal
 
 pub add_hop-requires : goal.add_hop-requires
@@ -22,16 +20,12 @@ invariant_of-self c =
     let here = at_router _ _ c.args.view.now at in
     let old = c.self.inside in
     let new = c.turn_in_place-hop.new in
-    let back : take old.bytes.len (new.bytes ++ drop (length new.bytes) old.bytes.items) ≡ new.bytes =
-    ap (λ (k : ℕ). take k (new.bytes ++ drop (length new.bytes) old.bytes.items))
-    (sym (c.turn_in_place-hop.ensures.len ∙ c.deref_mut.ensures.len))
-    ∙ take-append_seam new.bytes (drop (length new.bytes) old.bytes.items) in
     let hops = c.add_hop.ensures.hops in
-    let left = ap (λ (bytes : List ℕ). packet_with bytes new.place c.add_hop.new.passed.items) back
-    ∙ ap (λ (passed : List WalkHop). packet_with new.bytes new.place passed) hops
-    ∙ c.turn_in_place-hop.ensures.packet old.passed.items
+    let left = turned_in_room new.bytes old.bytes.items old.bytes.len new.place c.add_hop.new.passed.items _ _
+    (c.turn_in_place-hop.ensures.len ∙ c.deref_mut.ensures.len) hops
+    (c.turn_in_place-hop.ensures.packet old.passed.items
     ∙ ap (λ (bytes : List ℕ). (turn_under old.fabric.now c.args.view.now c.args.now (packet_with bytes old.place old.passed.items)).1)
-    c.deref_mut.ensures.value in (
+    c.deref_mut.ensures.value) in (
       flies_by c.args.now _ c.args.view.now _ c.self.invariant.0 at left,
       few_passed _ _ _ c.self.invariant.1 hops,
       λ _. (
@@ -46,13 +40,9 @@ returns c =
     (sym c.self.view_is) c.requires in
     let old = c.self.inside in
     let new = c.turn_in_place-hop.new in
-    let back : take old.bytes.len (new.bytes ++ drop (length new.bytes) old.bytes.items) ≡ new.bytes =
-    ap (λ (k : ℕ). take k (new.bytes ++ drop (length new.bytes) old.bytes.items))
-    (sym (c.turn_in_place-hop.ensures.len ∙ c.deref_mut.ensures.len))
-    ∙ take-append_seam new.bytes (drop (length new.bytes) old.bytes.items) in
-    let left = ap (λ (bytes : List ℕ). packet_with bytes new.place c.add_hop.new.passed.items) back
-    ∙ ap (λ (passed : List WalkHop). packet_with new.bytes new.place passed) c.add_hop.ensures.hops
-    ∙ c.turn_in_place-hop.ensures.packet old.passed.items
+    let left = turned_in_room new.bytes old.bytes.items old.bytes.len new.place c.add_hop.new.passed.items _ _
+    (c.turn_in_place-hop.ensures.len ∙ c.deref_mut.ensures.len) c.add_hop.ensures.hops
+    (c.turn_in_place-hop.ensures.packet old.passed.items
     ∙ ap (λ (bytes : List ℕ). (turn_under old.fabric.now c.args.view.now c.args.now (packet_with bytes old.place old.passed.items)).1)
-    c.deref_mut.ensures.value in
+    c.deref_mut.ensures.value) in
     advanced_by c.args.now _ c.args.view.now _ at left ∙ ap (advanced_flight c.args.now) c.self.view_is
