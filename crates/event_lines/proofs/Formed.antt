@@ -14,13 +14,15 @@ use Rattle.isd_as.specs.Reading.{address_at}
 use Rattle.refusal.specs.Optional.{◌>>=◌}
 use Rattle.json_fields.specs.Fields.{text_at, truth_at, whole_at}
 use Rattle.scion_topology.specs.declared.network.End.{End}
+use Rattle.scion_topology.specs.declared.network.LinkClass.{LinkClass}
 use Rattle.scion_topology.specs.declared.network.LinkClass.TheVariants.{Core, Child}
 use Rattle.scion_topology.specs.Keys.{key_from}
 use Rattle.scion_topology.specs.Network.{is_wildcard}
 use Rattle.scion_topology.specs.Reading.{address_in, as_entry_at, class_at, end_at, key_at, link_at}
+use Rattle.event_lines.specs.declared.members.MemberForm.{MemberForm}
 use Rattle.event_lines.specs.declared.members.MemberForm.TheVariants.{Address, AsAddress, Bytes, Key, Limit, LinkKind, Object, Truth, Whole}
 use Rattle.event_lines.specs.Line.{Happens, ask_in, back_in, byte_at, bytes_at, event_in, ia_in, line_with_word, long_at, options_in, plain_event, rotate_in, send_in, short_at, show_in, traffic_event}
-use Rattle.event_lines.specs.Members.{MemberValue, alter_members, as_members, ask_members, back_members, byte_form, extend_members, first_misfit, has_end, has_link, has_member, has_members, has_these, is_formed, is_of_form, is_plain, interface_members, line_words, long_form, members_of, number_within, originate_members, packet_members, rotate_members, send_members, short_form, terminate_members, text_passes, tick_members}
+use Rattle.event_lines.specs.Members.{MemberValue, alter_members, as_members, ask_members, back_members, byte_form, event_members, extend_members, first_misfit, has_end, has_form, has_link, has_member, has_members, has_these, is_formed, is_of_form, is_plain, interface_members, line_words, long_form, members_of, number_within, originate_members, packet_members, plain_members, rotate_members, send_members, short_form, terminate_members, text_passes, tick_members, traffic_members}
 
 -- ---- values by their form
 
@@ -33,25 +35,27 @@ read_text : {A F : Type 0} (read : (List ℕ → Result A F)) (text : Option (Li
 read_text read None = refl
 read_text read (Some text) = some_ok (read text)
 
+-- a reader of texts finds the value of a member exactly if it is of a form, since it reads exactly
+-- the texts of that form
+text_there : {A : Type 0} (form : MemberForm) (read : (List ℕ → Option A)) (v : Option Data)
+    → ((x : Data) → is_some (as_str x >>= read) ≡ has_form form x)
+    → is_some ((v >>= (λ x. as_str x)) >>= read) ≡ is_of_form form v
+text_there form read None each = refl
+text_there form read (Some x) each = each x
+
 address_there : (name : List ℕ) (d : Data)
     → is_some (ia_in name d) ≡ is_of_form Address (get name d)
 unfolding ia_in text_at
-address_there name d = of (get name d)
-  where
-    of : (v : Option Data) → is_some ((v >>= (λ x. as_str x)) >>= (λ text. result_ok (address_at text)))
-        ≡ is_of_form Address v
-    of None = refl
-    of (Some x) = read_text address_at (as_str x)
+address_there name d =
+    text_there Address (λ text. result_ok (address_at text)) (get name d)
+    (λ x. read_text address_at (as_str x))
 
 bytes_there : (name : List ℕ) (d : Data)
     → is_some (bytes_at name d) ≡ is_of_form Bytes (get name d)
 unfolding bytes_at text_at
-bytes_there name d = of (get name d)
-  where
-    of : (v : Option Data) → is_some ((v >>= (λ x. as_str x)) >>= (λ text. result_ok (decode_of text)))
-        ≡ is_of_form Bytes v
-    of None = refl
-    of (Some x) = read_text decode_of (as_str x)
+bytes_there name d =
+    text_there Bytes (λ text. result_ok (decode_of text)) (get name d)
+    (λ x. read_text decode_of (as_str x))
 
 if_some : (b : Bool) (n : ℕ) → is_some (if b then Some n else None) ≡ b
 if_some true n = refl
@@ -131,13 +135,7 @@ byte_there : (name : List ℕ) (d : Data)
 byte_there = whole_there 0 255
 
 traffic_formed : (word : List ℕ) (d : Data) → bytes_eq word (codes "ask") ≡ false
-    → is_some (traffic_event word d) ≡ has_these (policy_of word d)
-    (if bytes_eq word (codes "turn") then Some packet_members
-    else if bytes_eq word (codes "lose") then Some packet_members
-    else if bytes_eq word (codes "alter") then Some alter_members
-    else if bytes_eq word (codes "cut") then Some interface_members
-    else if bytes_eq word (codes "mend") then Some interface_members
-    else None) d
+    → is_some (traffic_event word d) ≡ has_these (policy_of word d) (traffic_members word) d
 unfolding traffic_event
 traffic_formed word d other =
     choose (bytes_eq word (codes "turn")) _ _ _ _ (policy_of word d) d
@@ -162,18 +160,7 @@ traffic_formed word d other =
     (λ _. refl)))))
 
 plain_formed : (word : List ℕ) (d : Data) → bytes_eq word (codes "ask") ≡ false
-    → is_some (plain_event word d) ≡ has_these (policy_of word d)
-    (if bytes_eq word (codes "tick") then Some tick_members
-    else if bytes_eq word (codes "originate") then Some originate_members
-    else if bytes_eq word (codes "extend") then Some extend_members
-    else if bytes_eq word (codes "terminate") then Some terminate_members
-    else if bytes_eq word (codes "sweep") then Some []
-    else if bytes_eq word (codes "turn") then Some packet_members
-    else if bytes_eq word (codes "lose") then Some packet_members
-    else if bytes_eq word (codes "alter") then Some alter_members
-    else if bytes_eq word (codes "cut") then Some interface_members
-    else if bytes_eq word (codes "mend") then Some interface_members
-    else None) d
+    → is_some (plain_event word d) ≡ has_these (policy_of word d) (plain_members word) d
 unfolding plain_event
 plain_formed word d other =
     choose (bytes_eq word (codes "tick")) _ _ _ _ (policy_of word d) d
@@ -198,22 +185,7 @@ plain_formed word d other =
     (λ _. traffic_formed word d other)))))
 
 event_formed : (word : List ℕ) (d : Data)
-    → is_some (event_in word d) ≡ has_these (policy_of word d)
-    (if bytes_eq word (codes "ask") then Some ask_members
-    else if bytes_eq word (codes "send") then Some send_members
-    else if bytes_eq word (codes "back") then Some back_members
-    else if bytes_eq word (codes "rotate") then Some rotate_members
-    else if bytes_eq word (codes "tick") then Some tick_members
-    else if bytes_eq word (codes "originate") then Some originate_members
-    else if bytes_eq word (codes "extend") then Some extend_members
-    else if bytes_eq word (codes "terminate") then Some terminate_members
-    else if bytes_eq word (codes "sweep") then Some []
-    else if bytes_eq word (codes "turn") then Some packet_members
-    else if bytes_eq word (codes "lose") then Some packet_members
-    else if bytes_eq word (codes "alter") then Some alter_members
-    else if bytes_eq word (codes "cut") then Some interface_members
-    else if bytes_eq word (codes "mend") then Some interface_members
-    else None) d
+    → is_some (event_in word d) ≡ has_these (policy_of word d) (event_members word) d
 unfolding ask_in send_in back_in rotate_in
 event_formed word d =
     choose (bytes_eq word (codes "ask")) _ _ _ _ (policy_of word d) d
@@ -254,31 +226,29 @@ lines_are_formed word d =
 
 -- ---- topologies
 
+-- the reader of addresses of ASes
+abbrev plain_at : List ℕ → Option ℕ
+plain_at text = result_ok (address_at text) >>= (λ ia. if is_wildcard ia then None else Some ia)
+
 plain_there : (name : List ℕ) (d : Data)
     → is_some (address_in name d) ≡ is_of_form AsAddress (get name d)
 unfolding address_in text_at
-plain_there name d = of (get name d)
+plain_there name d = text_there AsAddress plain_at (get name d) (λ x. text_of (as_str x))
   where
     unless : (b : Bool) (ia : ℕ) → is_some (if b then None else Some ia) ≡ not b
     unless true ia = refl
     unless false ia = refl
 
     address : {F : Type 0} (read : Result ℕ F)
-        → is_some (result_ok read >>= (λ ia. if is_wildcard ia then None else Some ia)) ≡ is_plain read
+        → is_some (result_ok read >>= (λ ia. if is_wildcard ia then None else Some ia))
+        ≡ is_plain read
     address (Ok ia) = unless (is_wildcard ia) ia
     address (Err fault) = refl
 
     text_of : (text : Option (List ℕ))
-        → is_some (text >>= (λ t. result_ok (address_at t)
-        >>= (λ ia. if is_wildcard ia then None else Some ia)))
-        ≡ text_passes (λ t. is_plain (address_at t)) text
+        → is_some (text >>= plain_at) ≡ text_passes (λ t. is_plain (address_at t)) text
     text_of None = refl
     text_of (Some text) = address (address_at text)
-
-    of : (v : Option Data) → is_some ((v >>= (λ x. as_str x)) >>= (λ t. result_ok (address_at t)
-        >>= (λ ia. if is_wildcard ia then None else Some ia))) ≡ is_of_form AsAddress v
-    of None = refl
-    of (Some x) = text_of (as_str x)
 
 truth_there : (name : List ℕ) (d : Data)
     → is_some (truth_at name d) ≡ is_of_form Truth (get name d)
@@ -289,29 +259,27 @@ truth_there name d = of (get name d)
     of None = refl
     of (Some x) = refl
 
+-- the reader of kinds of links
+abbrev kind_at : List ℕ → Option LinkClass
+kind_at text = if bytes_eq text (codes "core") then Some Core
+    else if bytes_eq text (codes "child") then Some Child else None
+
 kind_there : (name : List ℕ) (d : Data)
     → is_some (class_at name d) ≡ is_of_form LinkKind (get name d)
 unfolding class_at text_at
-kind_there name d = of (get name d)
+kind_there name d = text_there LinkKind kind_at (get name d) (λ x. text_of (as_str x))
   where
     either : (core child : Bool)
-        → is_some (if core then Some Core else if child then Some Child else None) ≡ (core || child)
+        → is_some (if core then Some Core else if child then Some Child else None)
+        ≡ (core || child)
     either true child = refl
     either false true = refl
     either false false = refl
 
-    text_of : (text : Option (List ℕ))
-        → is_some (text >>= (λ t. if bytes_eq t (codes "core") then Some Core
-        else if bytes_eq t (codes "child") then Some Child else None))
+    text_of : (text : Option (List ℕ)) → is_some (text >>= kind_at)
         ≡ text_passes (λ t. bytes_eq t (codes "core") || bytes_eq t (codes "child")) text
     text_of None = refl
     text_of (Some text) = either (bytes_eq text (codes "core")) (bytes_eq text (codes "child"))
-
-    of : (v : Option Data) → is_some ((v >>= (λ x. as_str x))
-        >>= (λ t. if bytes_eq t (codes "core") then Some Core
-        else if bytes_eq t (codes "child") then Some Child else None)) ≡ is_of_form LinkKind v
-    of None = refl
-    of (Some x) = text_of (as_str x)
 
 -- bytes of which there are 1 to 64 are a key
 is_a_key : (bytes : List ℕ) → 1 ≤ length bytes → length bytes ≤ 64
@@ -319,10 +287,15 @@ is_a_key : (bytes : List ℕ) → 1 ≤ length bytes → length bytes ≤ 64
 unfolding key_from
 is_a_key bytes some few = rw (le-leb _ _ some, le-leb _ _ few) refl
 
+-- the reader of keys
+abbrev key_of : List ℕ → Option (List ℕ)
+key_of text = (if nat_le 2 (length text) && nat_le (length text) 128
+    then result_ok (decode_of text) else None) >>= (λ bytes. result_ok (key_from bytes))
+
 key_there : (name : List ℕ) (d : Data)
     → is_some (key_at name d) ≡ is_of_form Key (get name d)
 unfolding key_at text_at
-key_there name d = of (get name d)
+key_there name d = text_there Key key_of (get name d) (λ x. text_of (as_str x))
   where
     sized : (text : List ℕ) (least most : Bool) → (least ≡ true → 2 ≤ length text)
         → (most ≡ true → length text ≤ 128) → (read : Result (List ℕ) _) → decode_of text ≡ read
@@ -337,21 +310,13 @@ key_there name d = of (get name d)
         let few = short refl in
         is_a_key bytes (omega (arith, count, two)) (omega (arith, count, few))
 
-    text_of : (text : Option (List ℕ))
-        → is_some (text >>= (λ t. (if nat_le 2 (length t) && nat_le (length t) 128
-        then result_ok (decode_of t) else None) >>= (λ bytes. result_ok (key_from bytes))))
-        ≡ text_passes (λ t. nat_le 2 (length t) && (nat_le (length t) 128 && is_ok (decode_of t))) text
+    text_of : (text : Option (List ℕ)) → is_some (text >>= key_of)
+        ≡ text_passes (λ t. nat_le 2 (length t)
+        && (nat_le (length t) 128 && is_ok (decode_of t))) text
     text_of None = refl
     text_of (Some text) =
         sized text (nat_le 2 (length text)) (nat_le (length text) 128)
         (leb-true 2 (length text)) (leb-true (length text) 128) (decode_of text) refl
-
-    of : (v : Option Data) → is_some ((v >>= (λ x. as_str x))
-        >>= (λ t. (if nat_le 2 (length t) && nat_le (length t) 128
-        then result_ok (decode_of t) else None) >>= (λ bytes. result_ok (key_from bytes))))
-        ≡ is_of_form Key v
-    of None = refl
-    of (Some x) = text_of (as_str x)
 
 pub ases_are_formed : (d : Data) → is_some (as_entry_at d) ≡ has_members as_members d
 unfolding as_entry_at
@@ -406,7 +371,8 @@ all_there kind a b =
     ap (λ x. kind && (x && (has_end b && true))) (is_object a)
     ∙ ap (λ y. kind && ((one && has_end a) && (y && true))) (is_object b)
     ∙ in_turn kind one other (has_end a) (has_end b)
-    ∙ ap (λ x. (kind && (one && (other && true))) && (x && (other && has_end b))) (sym (is_object a))
+    ∙ ap (λ x. (kind && (one && (other && true))) && (x && (other && has_end b)))
+    (sym (is_object a))
     ∙ ap (λ y. (kind && (one && (other && true))) && (has_end a && y)) (sym (is_object b))
 
 pub links_are_formed : (d : Data) → is_some (link_at d) ≡ has_link d

@@ -8,3 +8,4 @@ pub mod Heard
 pub mod Writing
 pub mod Running
 pub mod Formed
+pub mod Tells

@@ -2,6 +2,7 @@ pub mod Line
 pub mod Members
 pub mod AcceptedLines
 pub mod Text
+pub mod Refusals
 pub mod Answers
 pub mod Replies
 pub mod Run

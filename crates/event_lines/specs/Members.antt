@@ -119,6 +119,16 @@ abbrev pub alter_members : List MemberValue
 alter_members = named (codes "packet") long_form ∷ named (codes "at") long_form
     ∷ named (codes "xor") byte_form ∷ []
 
+-- the word of a request and the members with its policy, which may be absent
+abbrev pub policy_members : List MemberValue
+policy_members = named (codes "do") Text ∷ named (codes "acl") Items
+    ∷ named (codes "sequence") Text ∷ named (codes "options") Items ∷ []
+
+-- the members of a policy option, of which all but the weight may be absent
+abbrev pub option_members : List MemberValue
+option_members = named (codes "weight") long_form ∷ named (codes "acl") Items
+    ∷ named (codes "sequence") Text ∷ []
+
 -- of `cut` and `mend`
 abbrev pub interface_members : List MemberValue
 interface_members = named (codes "ia") Address ∷ named (codes "if") short_form ∷ []
@@ -126,25 +136,38 @@ interface_members = named (codes "ia") Address ∷ named (codes "if") short_form
 abbrev pub rotate_members : List MemberValue
 rotate_members = named (codes "key") Bytes ∷ named (codes "ia") Address ∷ []
 
--- the members of the lines with a word; none if no line has the word
-unfoldable pub members_of : List ℕ → Option (List MemberValue)
-members_of word =
-    if bytes_eq word (codes "show") then Some packet_members
-    else if bytes_eq word (codes "ask") then Some ask_members
-    else if bytes_eq word (codes "send") then Some send_members
-    else if bytes_eq word (codes "back") then Some back_members
-    else if bytes_eq word (codes "rotate") then Some rotate_members
-    else if bytes_eq word (codes "tick") then Some tick_members
-    else if bytes_eq word (codes "originate") then Some originate_members
-    else if bytes_eq word (codes "extend") then Some extend_members
-    else if bytes_eq word (codes "terminate") then Some terminate_members
-    else if bytes_eq word (codes "sweep") then Some []
-    else if bytes_eq word (codes "turn") then Some packet_members
+-- the members of the lines with a word, in the layers in which such a line is read: those of
+-- packets and links, all but those with a text or a policy, all events, and with `show` all lines;
+-- none if no line has the word
+abbrev pub traffic_members : List ℕ → Option (List MemberValue)
+traffic_members word =
+    if bytes_eq word (codes "turn") then Some packet_members
     else if bytes_eq word (codes "lose") then Some packet_members
     else if bytes_eq word (codes "alter") then Some alter_members
     else if bytes_eq word (codes "cut") then Some interface_members
     else if bytes_eq word (codes "mend") then Some interface_members
     else None
+
+abbrev pub plain_members : List ℕ → Option (List MemberValue)
+plain_members word =
+    if bytes_eq word (codes "tick") then Some tick_members
+    else if bytes_eq word (codes "originate") then Some originate_members
+    else if bytes_eq word (codes "extend") then Some extend_members
+    else if bytes_eq word (codes "terminate") then Some terminate_members
+    else if bytes_eq word (codes "sweep") then Some []
+    else traffic_members word
+
+abbrev pub event_members : List ℕ → Option (List MemberValue)
+event_members word =
+    if bytes_eq word (codes "ask") then Some ask_members
+    else if bytes_eq word (codes "send") then Some send_members
+    else if bytes_eq word (codes "back") then Some back_members
+    else if bytes_eq word (codes "rotate") then Some rotate_members
+    else plain_members word
+
+unfoldable pub members_of : List ℕ → Option (List MemberValue)
+members_of word =
+    if bytes_eq word (codes "show") then Some packet_members else event_members word
 
 -- the words of lines
 abbrev pub line_words : List (List ℕ)
@@ -198,4 +221,5 @@ has_end (Some d) = has_members end_members d
 
 -- whether an object has the members of a link, and each of its ends those of an end
 abbrev pub has_link : Data → Bool
-has_link d = has_members link_members d && (has_end (get (codes "a") d) && has_end (get (codes "b") d))
+has_link d = has_members link_members d
+    && (has_end (get (codes "a") d) && has_end (get (codes "b") d))

@@ -15,6 +15,7 @@ use Rattle.event_lines.specs.declared.accepted.AcceptedLines.{AcceptedLines}
 use Rattle.event_lines.specs.AcceptedLines.{accepted_as}
 use Rattle.event_lines.specs.Line.{LineValue, Happens, Shows, line_in}
 use Rattle.event_lines.specs.Answers.{Stage, Unbegun, Open, Closed, begun_text, refused_text}
+use Rattle.event_lines.specs.Refusals.{Tells, coded}
 use Rattle.event_lines.specs.Text.{bad_line, packet_text, reply_text}
 
 -- the reply to a line, and the network after it: an event happens, a packet is shown, or the line
@@ -63,6 +64,10 @@ stage_behind run = stage_of run.net
 abbrev pub reply_behind : LineRun → List ℕ
 reply_behind run = string_bytes run.reply
 
+-- the refusal that this reply tells
+abbrev pub refusal_behind : LineRun → Option (ℕ × List ℕ)
+refusal_behind run = coded run.refusal
+
 -- the run replies to this line, and is in this state after it; or the topology was refused, which
 -- is its reply; or memory ran out
 abbrev pub RepliesUnlessFull : (accepted : AcceptedLines) (result : Result (Unit {0}) RunFault)
@@ -72,3 +77,10 @@ RepliesUnlessFull accepted (Err faults.Topology) old line reply new =
     RepliesTo accepted old line reply Closed
 RepliesUnlessFull accepted (Err faults.Memory) old line reply new = Unit {0}
 RepliesUnlessFull accepted (Err fault) old line reply new = ⊥
+
+-- the reply tells this refusal, or none; or memory ran out
+abbrev pub TellsUnlessFull : {A : Type 0} → (result : Result A RunFault) (reply : List ℕ)
+    (refusal : Option (ℕ × List ℕ)) → Type 0
+TellsUnlessFull (Ok done) reply refusal = Tells reply refusal
+TellsUnlessFull (Err faults.Topology) reply refusal = Tells reply refusal
+TellsUnlessFull (Err fault) reply refusal = Unit {0}

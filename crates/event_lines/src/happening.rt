@@ -1,22 +1,23 @@
 //! Replies to lines, and the events that happen.
 //!
-//! Each reply is written into a text that is empty before it. Where memory runs out, that text may
-//! have a beginning of the reply.
+//! Each reply is written into a text that is empty before it, and the refusal that it tells is
+//! returned. Where memory runs out, that text may have a beginning of the reply.
 #![tactic(auto, unfolding(crate::specs::Line::ask_in, crate::specs::Line::back_in, crate::specs::Line::line_in, crate::specs::Line::line_with_word, crate::specs::Line::rotate_in, crate::specs::Line::said_by, crate::specs::Line::send_in,))]
 
-ghost use Rattle.std.specs.Prelude.{◌≡◌, [], OnOk, Some, option_map};
+ghost use Rattle.std.specs.Prelude.{◌≡◌, [], IfOk, None, OnOk, Some, option_map};
 ghost use Rattle.std.specs.String.{string_bytes};
 ghost use Rattle.json_fields.specs.Documents.{node_data};
 ghost use Rattle.network_core.specs.Event as events;
 ghost use Rattle.event_lines.specs.AcceptedLines.{accepted_as};
-ghost use Rattle.event_lines.specs.Line.{Happens, ask_in, back_in, line_in, line_with_word, plain_event, rotate_in, said_by, send_in, show_in};
+ghost use Rattle.event_lines.specs.Line.{Happens, Shows, ask_in, back_in, line_in, line_with_word, plain_event, rotate_in, said_by, send_in, show_in};
 ghost use Rattle.event_lines.specs.inner.Seen.{line_value};
+ghost use Rattle.event_lines.specs.Refusals.{Tells, coded};
 ghost use Rattle.event_lines.specs.Replies.{Replies};
 
 use crate::accepted::AcceptedLines;
 use crate::fields::{read_bytes, read_options};
 use crate::line::{Line, ask, back, plain, rotate, send, show};
-use crate::text::{push_bad_line, push_outcome, push_packet, push_reply};
+use crate::text::{Coded, push_bad_line, push_outcome, push_packet, push_reply};
 use forwarding::TurnReply;
 use json_fields::{Document, JsonRoom, Node};
 use network_core::{Event, Net, Reply};
@@ -24,21 +25,43 @@ use policy_expr::OwnedOptionText;
 use std::alloc::{AllocError, Global};
 
 /// Does an event, and writes its reply.
+#[tactic(auto, using(crate::proofs::Tells::outcome_tells))]
 fn happen(
     alloc: Global,
     net: &mut Net,
     event: &Event<'_>,
     reply: &mut String,
-) -> Result<(), AllocError>
+) -> Result<Option<Coded>, AllocError>
     requires { string_bytes reply.old ≡ [] }
-    ensures { OnOk result (Replies net.old (Some (Happens (events.event_value event.now)))
+    ensures told { OnOk result (Replies net.old (Some (Happens (events.event_value event.now)))
         (string_bytes reply.new) net.new) }
+    ensures refusal { IfOk result (λ refusal. Tells (string_bytes reply.new) (coded refusal)) }
 {
     let answered = net.step(alloc, event)?;
     if let Reply::Turned(TurnReply::Went(outcome)) = answered {
-        return push_outcome(reply, outcome);
+        push_outcome(reply, outcome)?;
+        return Ok(None);
     }
     push_reply(reply, net, answered)
+}
+
+/// Writes the reply to a bad line.
+fn answer_bad_line(net: &Net, reply: &mut String) -> Result<Option<Coded>, AllocError>
+    requires { string_bytes reply.old ≡ [] }
+    ensures told { OnOk result (Replies net.now None (string_bytes reply.new) net.now) }
+    ensures refusal { IfOk result (λ refusal. Tells (string_bytes reply.new) (coded refusal)) }
+{
+    push_bad_line(reply)
+}
+
+/// Writes the reply to a line that shows a packet.
+fn answer_shown(net: &Net, packet: u32, reply: &mut String) -> Result<Option<Coded>, AllocError>
+    requires { string_bytes reply.old ≡ [] }
+    ensures told { OnOk result (Replies net.now (Some (Shows packet)) (string_bytes reply.new)
+        net.now) }
+    ensures refusal { IfOk result (λ refusal. Tells (string_bytes reply.new) (coded refusal)) }
+{
+    push_packet(reply, net.packet(packet as usize))
 }
 
 /// Writes the reply to a line.
@@ -47,14 +70,15 @@ fn answer(
     net: &mut Net,
     line: &Line<'_>,
     reply: &mut String,
-) -> Result<(), AllocError>
+) -> Result<Option<Coded>, AllocError>
     requires { string_bytes reply.old ≡ [] }
-    ensures { OnOk result (Replies net.old (Some (line_value line.now))
+    ensures told { OnOk result (Replies net.old (Some (line_value line.now))
         (string_bytes reply.new) net.new) }
+    ensures refusal { IfOk result (λ refusal. Tells (string_bytes reply.new) (coded refusal)) }
 {
     match line {
         Line::Happens(event) => happen(alloc, net, event, reply),
-        Line::Show { packet } => push_packet(reply, net.packet(*packet as usize)),
+        Line::Show { packet } => answer_shown(net, *packet, reply),
     }
 }
 
@@ -65,15 +89,16 @@ fn answer_accepted(
     net: &mut Net,
     line: &Line<'_>,
     reply: &mut String,
-) -> Result<(), AllocError>
+) -> Result<Option<Coded>, AllocError>
     requires { string_bytes reply.old ≡ [] }
-    ensures { OnOk result (Replies net.old (accepted_as accepted (Some (line_value line.now)))
+    ensures told { OnOk result (Replies net.old (accepted_as accepted (Some (line_value line.now)))
         (string_bytes reply.new) net.new) }
+    ensures refusal { IfOk result (λ refusal. Tells (string_bytes reply.new) (coded refusal)) }
 {
     if accepted.accepts(line) {
         answer(alloc, net, line, reply)
     } else {
-        push_bad_line(reply)
+        answer_bad_line(net, reply)
     }
 }
 
@@ -84,15 +109,16 @@ fn answer_show(
     net: &mut Net,
     object: &Node<'_, '_>,
     reply: &mut String,
-) -> Result<(), AllocError>
+) -> Result<Option<Coded>, AllocError>
     requires { string_bytes reply.old ≡ [] }
-    ensures { OnOk result (Replies net.old
+    ensures told { OnOk result (Replies net.old
         (accepted_as accepted (show_in (node_data object.now)))
         (string_bytes reply.new) net.new) }
+    ensures refusal { IfOk result (λ refusal. Tells (string_bytes reply.new) (coded refusal)) }
 {
     match show(object) {
         Some(line) => answer_accepted(alloc, accepted, net, &line, reply),
-        None => push_bad_line(reply),
+        None => answer_bad_line(net, reply),
     }
 }
 
@@ -104,15 +130,16 @@ fn answer_plain(
     word: &str,
     object: &Node<'_, '_>,
     reply: &mut String,
-) -> Result<(), AllocError>
+) -> Result<Option<Coded>, AllocError>
     requires { string_bytes reply.old ≡ [] }
-    ensures { OnOk result (Replies net.old
+    ensures told { OnOk result (Replies net.old
         (accepted_as accepted (option_map Happens (plain_event word.now (node_data object.now))))
         (string_bytes reply.new) net.new) }
+    ensures refusal { IfOk result (λ refusal. Tells (string_bytes reply.new) (coded refusal)) }
 {
     match plain(word, object) {
         Some(event) => answer_accepted(alloc, accepted, net, &Line::Happens(event), reply),
-        None => push_bad_line(reply),
+        None => answer_bad_line(net, reply),
     }
 }
 
@@ -123,19 +150,20 @@ fn answer_ask(
     net: &mut Net,
     object: &Node<'_, '_>,
     reply: &mut String,
-) -> Result<(), AllocError>
+) -> Result<Option<Coded>, AllocError>
     requires { string_bytes reply.old ≡ [] }
-    ensures { OnOk result (Replies net.old
+    ensures told { OnOk result (Replies net.old
         (accepted_as accepted (option_map Happens (ask_in (node_data object.now))))
         (string_bytes reply.new) net.new) }
+    ensures refusal { IfOk result (λ refusal. Tells (string_bytes reply.new) (coded refusal)) }
 {
     let Some(options) = read_options(alloc, object)? else {
-        return push_bad_line(reply);
+        return answer_bad_line(net, reply);
     };
     let lent = OwnedOptionText::lend_all(alloc, &options)?;
     match ask(object, &lent) {
         Some(event) => answer_accepted(alloc, accepted, net, &Line::Happens(event), reply),
-        None => push_bad_line(reply),
+        None => answer_bad_line(net, reply),
     }
 }
 
@@ -146,18 +174,19 @@ fn answer_send(
     net: &mut Net,
     object: &Node<'_, '_>,
     reply: &mut String,
-) -> Result<(), AllocError>
+) -> Result<Option<Coded>, AllocError>
     requires { string_bytes reply.old ≡ [] }
-    ensures { OnOk result (Replies net.old
+    ensures told { OnOk result (Replies net.old
         (accepted_as accepted (option_map Happens (send_in (node_data object.now))))
         (string_bytes reply.new) net.new) }
+    ensures refusal { IfOk result (λ refusal. Tells (string_bytes reply.new) (coded refusal)) }
 {
     let Some(payload) = read_bytes(alloc, object, "payload")? else {
-        return push_bad_line(reply);
+        return answer_bad_line(net, reply);
     };
     match send(object, &payload) {
         Some(event) => answer_accepted(alloc, accepted, net, &Line::Happens(event), reply),
-        None => push_bad_line(reply),
+        None => answer_bad_line(net, reply),
     }
 }
 
@@ -168,18 +197,19 @@ fn answer_back(
     net: &mut Net,
     object: &Node<'_, '_>,
     reply: &mut String,
-) -> Result<(), AllocError>
+) -> Result<Option<Coded>, AllocError>
     requires { string_bytes reply.old ≡ [] }
-    ensures { OnOk result (Replies net.old
+    ensures told { OnOk result (Replies net.old
         (accepted_as accepted (option_map Happens (back_in (node_data object.now))))
         (string_bytes reply.new) net.new) }
+    ensures refusal { IfOk result (λ refusal. Tells (string_bytes reply.new) (coded refusal)) }
 {
     let Some(payload) = read_bytes(alloc, object, "payload")? else {
-        return push_bad_line(reply);
+        return answer_bad_line(net, reply);
     };
     match back(object, &payload) {
         Some(event) => answer_accepted(alloc, accepted, net, &Line::Happens(event), reply),
-        None => push_bad_line(reply),
+        None => answer_bad_line(net, reply),
     }
 }
 
@@ -190,18 +220,19 @@ fn answer_rotate(
     net: &mut Net,
     object: &Node<'_, '_>,
     reply: &mut String,
-) -> Result<(), AllocError>
+) -> Result<Option<Coded>, AllocError>
     requires { string_bytes reply.old ≡ [] }
-    ensures { OnOk result (Replies net.old
+    ensures told { OnOk result (Replies net.old
         (accepted_as accepted (option_map Happens (rotate_in (node_data object.now))))
         (string_bytes reply.new) net.new) }
+    ensures refusal { IfOk result (λ refusal. Tells (string_bytes reply.new) (coded refusal)) }
 {
     let Some(key) = read_bytes(alloc, object, "key")? else {
-        return push_bad_line(reply);
+        return answer_bad_line(net, reply);
     };
     match rotate(object, &key) {
         Some(event) => answer_accepted(alloc, accepted, net, &Line::Happens(event), reply),
-        None => push_bad_line(reply),
+        None => answer_bad_line(net, reply),
     }
 }
 
@@ -212,13 +243,14 @@ fn answer_object(
     net: &mut Net,
     object: &Node<'_, '_>,
     reply: &mut String,
-) -> Result<(), AllocError>
+) -> Result<Option<Coded>, AllocError>
     requires { string_bytes reply.old ≡ [] }
-    ensures { OnOk result (Replies net.old (accepted_as accepted (said_by (node_data object.now)))
+    ensures told { OnOk result (Replies net.old (accepted_as accepted (said_by (node_data object.now)))
         (string_bytes reply.new) net.new) }
+    ensures refusal { IfOk result (λ refusal. Tells (string_bytes reply.new) (coded refusal)) }
 {
     let Some(word) = object.text("do") else {
-        return push_bad_line(reply);
+        return answer_bad_line(net, reply);
     };
     match word {
         "show" => answer_show(alloc, accepted, net, object, reply),
@@ -243,13 +275,14 @@ pub(crate) fn answer_line(
     net: &mut Net,
     bytes: &[u8],
     reply: &mut String,
-) -> Result<(), AllocError>
+) -> Result<Option<Coded>, AllocError>
     requires { string_bytes reply.old ≡ [] }
-    ensures { OnOk result (Replies net.old (accepted_as accepted (line_in bytes.now))
+    ensures told { OnOk result (Replies net.old (accepted_as accepted (line_in bytes.now))
         (string_bytes reply.new) net.new) }
+    ensures refusal { IfOk result (λ refusal. Tells (string_bytes reply.new) (coded refusal)) }
 {
     match Document::read(alloc, room, bytes)? {
         Some(document) => answer_object(alloc, accepted, net, &document.root(), reply),
-        None => push_bad_line(reply),
+        None => answer_bad_line(net, reply),
     }
 }

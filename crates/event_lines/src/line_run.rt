@@ -5,11 +5,13 @@ ghost use Rattle.std.specs.String.{string_bytes};
 ghost use Rattle.network_core.specs.Value.{NetValue};
 ghost use Rattle.event_lines.specs.Answers.{Open, Unbegun};
 ghost use Rattle.event_lines.specs.inner.Session.{Begins};
-ghost use Rattle.event_lines.specs.Replies.{RepliesUnlessFull, reply_behind, stage_behind, stage_of};
+ghost use Rattle.event_lines.specs.Refusals.{coded};
+ghost use Rattle.event_lines.specs.Replies.{RepliesUnlessFull, TellsUnlessFull, refusal_behind, reply_behind, stage_behind, stage_of};
 
 use crate::accepted::AcceptedLines;
 use crate::fault::RunFault;
 use crate::happening::answer_line;
+use crate::text::Coded;
 use json_fields::JsonRoom;
 use network_core::Net;
 use refusal::{NumberedFault, OrMemory};
@@ -18,21 +20,31 @@ use std::alloc::Global;
 use std::fmt::Write;
 
 /// A run whose lines come one by one: its network, once the topology was read; its reply to the
-/// last line; and the room for reading a line, kept from line to line.
+/// last line, with the refusal that it tells; and the room for reading a line, kept from line to
+/// line.
 #[derive(Drop)]
 pub struct LineRun {
     pub(crate) net: Option<Net>,
     pub(crate) reply: String,
+    pub(crate) refusal: Option<Coded>,
     json: JsonRoom,
 }
 
-/// The network of the first line, whose reply is written. [`RunFault::Topology`] if the line is no
-/// topology.
-fn begin(alloc: Global, line: &[u8], reply: &mut String) -> Result<Net, RunFault>
+/// The network of the first line, whose reply is written, and the refusal that it tells.
+/// [`RunFault::Topology`] if the line is no topology.
+#[tactic(auto, using(crate::proofs::Tells::begun_tells, crate::proofs::Tells::topology_tells))]
+fn begin(
+    alloc: Global,
+    line: &[u8],
+    reply: &mut String,
+    refusal: &mut Option<Coded>,
+) -> Result<Net, RunFault>
     requires { string_bytes reply.old ≡ [] }
-    ensures { (accepted : AcceptedLines) → Begins accepted result line.now
+    ensures begun { (accepted : AcceptedLines) → Begins accepted result line.now
         (string_bytes reply.new) }
+    ensures refusal { TellsUnlessFull result (string_bytes reply.new) (coded refusal.new) }
 {
+    *refusal = None;
     match Topology::from_json(alloc, line) {
         Ok(topology) => {
             topology.known();
@@ -41,6 +53,7 @@ fn begin(alloc: Global, line: &[u8], reply: &mut String) -> Result<Net, RunFault
         }
         Err(OrMemory::Refused(fault)) => {
             write!(reply, "topology no {} {}", fault.code(), fault.name())?;
+            *refusal = Some(fault.code_and_name());
             Err(RunFault::Topology)
         }
         Err(OrMemory::Memory) => Err(RunFault::Memory),
@@ -55,6 +68,7 @@ impl LineRun {
         Self {
             net: None,
             reply: String::new(alloc),
+            refusal: None,
             json: JsonRoom::new(alloc),
         }
     }
@@ -72,15 +86,21 @@ impl LineRun {
         accepted: AcceptedLines,
         line: &[u8],
     ) -> Result<(), RunFault>
-        ensures { RepliesUnlessFull accepted result (stage_behind self.old) line.now
+        ensures replied { RepliesUnlessFull accepted result (stage_behind self.old) line.now
             (reply_behind self.new) (stage_behind self.new) }
+        ensures refusal { TellsUnlessFull result (reply_behind self.new)
+            (refusal_behind self.new) }
     {
         self.reply.clear();
         match &mut self.net {
             Some(net) => {
-                answer_line(alloc, accepted, &mut self.json, net, line, &mut self.reply)?;
+                let (json, reply) = (&mut self.json, &mut self.reply);
+                self.refusal = answer_line(alloc, accepted, json, net, line, reply)?;
             }
-            None => self.net = Some(begin(alloc, line, &mut self.reply)?),
+            None => {
+                let begun = begin(alloc, line, &mut self.reply, &mut self.refusal)?;
+                self.net = Some(begun);
+            }
         }
         Ok(())
     }
@@ -90,6 +110,14 @@ impl LineRun {
         ensures { result.now ≡ reply_behind self.now }
     {
         self.reply.as_str()
+    }
+
+    /// The number and the name of the refusal that the reply to the last line tells: that of the
+    /// line, or of the packet whose turn it was. `None` if it tells none, or there was no reply yet.
+    pub fn refusal(&self) -> Option<(u16, &'static str)>
+        ensures { coded result ≡ refusal_behind self.now }
+    {
+        self.refusal
     }
 
     /// The network after the last line, once the topology was read.

@@ -1,8 +1,8 @@
 //! The table of lines: their words, and the members of each with the forms of their values; and the
 //! members of a topology's objects.
 //!
-//! A line is read exactly if it has its members, and so is an object of a topology
-//! ([`laws`](crate::laws)). So who says why a line was not read looks here, and has no grammar.
+//! A line is read exactly if it has its members, and with `ask` a policy; so is an object of a
+//! topology ([`laws`](crate::laws)). Who says why a line was not read looks here for the member.
 
 ghost use Rattle.std.specs.Prelude.{◌≡◌, ◌↔◌, ◌&&◌, ◌∷◌, [], codes, true, Some, is_ok, length, map, nat_le, option_and_then, option_map, IsTrue, All};
 ghost use Rattle.hex.specs.Hex.{decode_of, is_hex_digit};
@@ -11,7 +11,7 @@ ghost use Rattle.serde_json.specs.Data.{Data};
 ghost use Rattle.serde_json.specs.Find.{as_number, as_str, as_u64};
 ghost use Rattle.serde_json.specs.View.{view};
 ghost use Rattle.event_lines.specs.declared.members.MemberForm.TheVariants.{Text};
-ghost use Rattle.event_lines.specs.Members.{as_members, end_members, first_misfit, has_form, has_member, is_plain, line_words, link_members, long_form, member_value, members_of, named, number_within, topology_members};
+ghost use Rattle.event_lines.specs.Members.{as_members, end_members, first_misfit, has_form, has_member, is_plain, line_words, link_members, long_form, member_value, members_of, named, number_within, option_members, policy_members, topology_members};
 
 use isd_as::IsdAs;
 use scion_topology::MAX_KEY_LEN;
@@ -216,7 +216,9 @@ pub fn members_of(word: &str) -> Option<&'static [Member]>
 }
 
 /// The member with the word of a request, and those with its policy, each of which may be absent.
-pub fn policy_members() -> &'static [Member] {
+pub fn policy_members() -> &'static [Member]
+    ensures { map member_value result.now ≡ policy_members }
+{
     &POLICY
 }
 
@@ -228,7 +230,9 @@ pub fn weight_member() -> &'static [Member]
 }
 
 /// All members of a policy option; `acl` and `sequence` may be absent.
-pub fn option_members() -> &'static [Member] {
+pub fn option_members() -> &'static [Member]
+    ensures { map member_value result.now ≡ option_members }
+{
     &OPTION
 }
 

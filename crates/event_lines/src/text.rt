@@ -3,8 +3,10 @@
 //! A reply is written behind a text that is kept from line to line, so that it needs no memory of
 //! its own once that text has room.
 
-ghost use Rattle.std.specs.Prelude.{◌≡◌, ◌++◌, IfOk, OnOk, flat_map, option_map};
+ghost use Rattle.std.specs.Prelude.{◌≡◌, ◌++◌, IfOk, OnOk, Some, flat_map, option_map};
 ghost use Rattle.std.specs.String.{string_bytes};
+ghost use Rattle.network_core.specs.Fault.{code_and_name};
+ghost use Rattle.event_lines.specs.Refusals.{bad_line_refusal, coded, refusal_of, refusal_shown};
 ghost use Rattle.event_lines.specs.Text.{answer_in, answer_text, bad_line, fault_text, hop_text, hops_text, kinds_text, letter, outcome_text, packet_text, passed_text, path_text, paths_of, place_text, reply_text, turn_text};
 
 use combinator::Path;
@@ -16,6 +18,9 @@ use refusal::NumberedFault;
 use router_step::Outcome;
 use std::alloc::{AllocError, Global};
 use std::fmt::Write;
+
+/// The number and the name of a refusal.
+pub(crate) type Coded = (u16, &'static str);
 
 /// Adds a hop.
 fn push_hop(text: &mut String, hop: &WalkHop) -> Result<(), AllocError>
@@ -66,10 +71,7 @@ pub fn kinds_text(alloc: Global, pieces: &Pieces<'_>) -> Result<String, AllocErr
 {
     let mut text = String::new(alloc);
     for place in 0..pieces.len() {
-        let Some(piece) = pieces.get(place) else {
-            // The loop counts the pieces.
-            unreachable!()
-        };
+        let piece = pieces.get(place).unwrap();
         text.push_str(letter(piece.kind()))?;
     }
     Ok(text)
@@ -86,32 +88,42 @@ pub(crate) fn push_outcome(text: &mut String, outcome: Outcome) -> Result<(), Al
     }
 }
 
-/// Adds the reply of a turn.
-fn push_turn(text: &mut String, reply: TurnReply) -> Result<(), AllocError>
-    ensures { OnOk result (string_bytes text.new ≡ string_bytes text.old ++ turn_text reply) }
+/// Adds the reply of a turn. Returns the refusal of the packet, if there is one.
+fn push_turn(text: &mut String, reply: TurnReply) -> Result<Option<Coded>, AllocError>
+    ensures added { OnOk result
+        (string_bytes text.new ≡ string_bytes text.old ++ turn_text reply) }
+    ensures refusal { IfOk result (λ refusal. coded refusal ≡ refusal_of (Reply.Turned reply)) }
 {
     match reply {
-        TurnReply::Went(outcome) => push_outcome(text, outcome),
+        TurnReply::Went(outcome) => push_outcome(text, outcome)?,
         TurnReply::Refused(cause) => {
             text.push_str("refused ")?;
-            cause.push_to(text)
+            cause.push_to(text)?;
+            return Ok(Some(cause.code_and_name()));
         }
-        TurnReply::Still => text.push_str("ok"),
+        TurnReply::Still => text.push_str("ok")?,
     }
+    Ok(None)
 }
 
-/// Adds the refusal of an event.
-fn push_fault(text: &mut String, fault: EventFault) -> Result<(), AllocError>
-    ensures { OnOk result (string_bytes text.new ≡ string_bytes text.old ++ fault_text fault) }
+/// Adds the refusal of an event, and returns it.
+fn push_fault(text: &mut String, fault: EventFault) -> Result<Option<Coded>, AllocError>
+    ensures added { OnOk result
+        (string_bytes text.new ≡ string_bytes text.old ++ fault_text fault) }
+    ensures refusal { IfOk result (λ refusal. coded refusal ≡ Some (code_and_name fault)) }
 {
-    write!(text, "no {} {}", fault.code(), fault.name())
+    let (code, name) = fault.code_and_name();
+    write!(text, "no {code} {name}")?;
+    Ok(Some((code, name)))
 }
 
-/// Adds the reply to a bad line.
-pub(crate) fn push_bad_line(text: &mut String) -> Result<(), AllocError>
-    ensures { OnOk result (string_bytes text.new ≡ string_bytes text.old ++ bad_line) }
+/// Adds the reply to a bad line, and returns its refusal.
+pub(crate) fn push_bad_line(text: &mut String) -> Result<Option<Coded>, AllocError>
+    ensures added { OnOk result (string_bytes text.new ≡ string_bytes text.old ++ bad_line) }
+    ensures refusal { IfOk result (λ refusal. coded refusal ≡ bad_line_refusal) }
 {
-    text.push_str("no 140 BadLine")
+    text.push_str("no 140 BadLine")?;
+    Ok(Some((140, "BadLine")))
 }
 
 /// Adds the walk of each path of an answer.
@@ -145,22 +157,29 @@ fn paths_in(net: &Net, number: usize) -> &[Path]
     }
 }
 
-/// Adds the reply to an event, in the network after it.
-pub(crate) fn push_reply(text: &mut String, net: &Net, reply: Reply) -> Result<(), AllocError>
-    ensures { OnOk result (string_bytes text.new
+/// Adds the reply to an event, in the network after it. Returns the refusal that it tells, if it
+/// tells one.
+pub(crate) fn push_reply(
+    text: &mut String,
+    net: &Net,
+    reply: Reply,
+) -> Result<Option<Coded>, AllocError>
+    ensures added { OnOk result (string_bytes text.new
         ≡ string_bytes text.old ++ reply_text net.now reply) }
+    ensures refusal { IfOk result (λ refusal. coded refusal ≡ refusal_of reply) }
 {
     match reply {
-        Reply::Done => text.push_str("ok"),
-        Reply::Begun(beacon) => write!(text, "beacon {beacon}"),
-        Reply::Registered(true) => text.push_str("segment new"),
-        Reply::Registered(false) => text.push_str("segment known"),
-        Reply::Swept(count) => write!(text, "swept {count}"),
-        Reply::Answered(number) => push_answer(text, number, paths_in(net, number)),
-        Reply::Sent(packet) => write!(text, "packet {packet}"),
-        Reply::Turned(turned) => push_turn(text, turned),
-        Reply::Refused(cause) => push_fault(text, cause),
+        Reply::Done => text.push_str("ok")?,
+        Reply::Begun(beacon) => write!(text, "beacon {beacon}")?,
+        Reply::Registered(true) => text.push_str("segment new")?,
+        Reply::Registered(false) => text.push_str("segment known")?,
+        Reply::Swept(count) => write!(text, "swept {count}")?,
+        Reply::Answered(number) => push_answer(text, number, paths_in(net, number))?,
+        Reply::Sent(packet) => write!(text, "packet {packet}")?,
+        Reply::Turned(turned) => return push_turn(text, turned),
+        Reply::Refused(cause) => return push_fault(text, cause),
     }
+    Ok(None)
 }
 
 /// Adds the place of a packet.
@@ -190,16 +209,23 @@ fn push_passed(text: &mut String, passed: &[WalkHop]) -> Result<(), AllocError>
     push_hops(text, passed)
 }
 
-/// Adds the reply about a packet: its place, and the hops that it has passed.
-pub(crate) fn push_packet(text: &mut String, packet: Option<&Packet>) -> Result<(), AllocError>
-    ensures { OnOk result (string_bytes text.new
+/// Adds the reply about a packet: its place, and the hops that it has passed. Returns the refusal
+/// that it tells, if there is no packet.
+pub(crate) fn push_packet(
+    text: &mut String,
+    packet: Option<&Packet>,
+) -> Result<Option<Coded>, AllocError>
+    ensures added { OnOk result (string_bytes text.new
         ≡ string_bytes text.old ++ packet_text (option_map (λ p. p.now) packet.entry)) }
+    ensures refusal { IfOk result (λ refusal. coded refusal
+        ≡ refusal_shown (option_map (λ p. p.now) packet.entry)) }
 {
     match packet {
         None => push_fault(text, EventFault::NoPacket),
         Some(packet) => {
             push_place(text, packet.place())?;
-            push_passed(text, packet.passed())
+            push_passed(text, packet.passed())?;
+            Ok(None)
         }
     }
 }

@@ -2,5 +2,5 @@
 use Rattle.std.proofs.Common.{rules}
 use Rattle.event_lines.proofs.line_run.begin.Goals as goal
 
-pub returns-in_ok-push_str-in-Ok : goal.returns-in_ok-push_str-in-Ok
-returns-in_ok-push_str-in-Ok c accepted = search rules
+pub returns-in_ok-push_str-in-Ok-clause-begun : goal.returns-in_ok-push_str-in-Ok-clause-begun
+returns-in_ok-push_str-in-Ok-clause-begun c accepted = search rules
