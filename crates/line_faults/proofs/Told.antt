@@ -1,16 +1,18 @@
 -- What is found in one line.
-use Rattle.std.proofs.Common.{rules, ◌≡◌, ℕ, ◌+◌, ◌==◌, ◌||◌, not, Bool, true, false, List, [], ◌∷◌, ◌++◌, length, map, Some, Ok, refl, sym, ap, ◌∙◌, append_assoc, append-nil}
+use Rattle.std.proofs.Common.{rules, ◌≡◌, ℕ, ◌+◌, ◌==◌, ◌||◌, not, Bool, true, false, List, [], ◌∷◌, ◌++◌, length, map, Option, Some, None, Ok, is_some, refl, sym, ap, ◌∙◌, append_assoc, append-nil}
 use Rattle.std.proofs.Math.Dec.{eqb-suc-zero}
+use denote.Ref.{Bor}
 use Rattle.std.specs.Prelude.{All, codes, flat_map, if◌then◌else◌}
 use Rattle.std.specs.String.{string_bytes}
 use Rattle.std.proofs.lemmas.Grind.{flat_map-append}
 use Rattle.std.proofs.lemmas.List.Elements.{All-cons, All-nil}
 use Rattle.std.proofs.lemmas.List.Folds.{flat_map-map}
+use Rattle.event_lines.specs.Refusals.{Tells, coded, is_refusal}
 use Rattle.event_lines.specs.Run.{has_line_end}
 use Rattle.line_faults.specs.declared.finding.FindingForm.{FindingForm}
 use Rattle.line_faults.specs.declared.said.Said.{Said}
 use Rattle.line_faults.specs.Finding.{FindingValue, all_written, has_any, written}
-use Rattle.line_faults.specs.Explanation.{AreReasons, IsReason, IsTold, IsWarning, is_refusal}
+use Rattle.line_faults.specs.Explanation.{AreReasons, IsReason, IsTold, IsWarning}
 use Rattle.line_faults.specs.inner.Adding.{Adds, AddsOne, AreFound, one_line, warning_of}
 use Rattle.line_faults.specs.inner.Telling.{Tally, TellsReply, with_told}
 
@@ -20,6 +22,12 @@ two_texts : (form : FindingForm) (one other : List FindingValue)
 two_texts form one other = flat_map-append (λ finding. written form finding) one other
 
 -- ---- reasons
+
+-- a refusal is told exactly where the reply is one
+pub told_if_refused : (reply : List ℕ) (refusal : Option (ℕ × Bor (List ℕ))) → Tells reply (coded refusal)
+    → is_some refusal ≡ is_refusal reply
+told_if_refused reply None tells = sym tells
+told_if_refused reply (Some one) tells = sym tells.0
 
 pub no_reason : (form : FindingForm) (refused : Bool) (number : ℕ) (reply text : List ℕ) → refused ≡ false
     → Adds form (AreReasons refused number reply) text text

@@ -1,57 +1,18 @@
 -- What is found in the lines of a run, by their replies.
-use Rattle.std.specs.Prelude.{◌≡◌, ℕ, ◌+◌, ◌^◌, ◌<◌, ◌||◌, ◌&&◌, ◌==◌, if◌then◌else◌, not, codes, Bool, true, false, List, [], ◌∷◌, ◌++◌, length, All, nat_eq, Some, None}
-use Rattle.std.specs.Fmt.{decimal}
-use Rattle.std.specs.List.{after_first, before_first, list_any, starts_with}
+use Rattle.std.specs.Prelude.{◌≡◌, ℕ, ◌+◌, Bool, true, false, List, [], ◌∷◌, ◌++◌, All, Some, None}
+use Rattle.event_lines.specs.Refusals.{Tells, is_refusal}
 use Rattle.event_lines.specs.Run.{has_line_end}
 use Rattle.line_faults.specs.Finding.{FindingValue}
 
--- a hyphen, as in an address
-abbrev pub hyphen : ℕ
-hyphen = 45
-
--- whether a reply says that a router refused a packet at its turn; a reply to `show` names the
--- router's AS too
-abbrev pub is_refused_turn : (reply : List ℕ) → Bool
-is_refused_turn reply =
-    starts_with nat_eq reply (codes "refused ") && not (list_any (λ b. b == hyphen) reply)
-
--- whether a reply says that its line is refused, or the packet whose turn it is
-abbrev pub is_refusal : (reply : List ℕ) → Bool
-is_refusal reply =
-    starts_with nat_eq reply (codes "no ")
-    || (starts_with nat_eq reply (codes "topology no ") || is_refused_turn reply)
-
--- ---- the refusal in a reply
-
-abbrev pub is_blank : ℕ → Bool
-is_blank byte = byte == 32
-
--- its number and what stands behind it: all behind the first word, or behind two if the first is
--- `topology`
-abbrev pub refusal_text : (reply : List ℕ) → List ℕ
-refusal_text reply =
-    if starts_with nat_eq reply (codes "topology ")
-    then after_first is_blank (after_first is_blank reply)
-    else after_first is_blank reply
-
--- its number
-abbrev pub code_text : (reply : List ℕ) → List ℕ
-code_text reply = before_first is_blank (refusal_text reply)
-
--- its name
-abbrev pub name_text : (reply : List ℕ) → List ℕ
-name_text reply = before_first is_blank (after_first is_blank (refusal_text reply))
-
--- ---- findings
-
 -- the finding says why the line of this number has this reply, with the number and the name of the
--- refusal in the reply
+-- refusal that the reply tells
 pub record IsReason (number : ℕ) (reply : List ℕ) (finding : FindingValue) : Type 0 where
+  pub coded : ℕ × List ℕ
+  pub tells : Tells reply (Some coded)
   pub line : finding.line ≡ number
   pub replied : finding.reply ≡ Some reply
-  pub refusal : (code : ℕ) → code < 2 ^ 64 → code_text reply ≡ decimal code
-      → finding.refusal ≡ Some code
-  pub name : finding.name ≡ Some (name_text reply)
+  pub refusal : finding.refusal ≡ Some coded.0
+  pub name : finding.name ≡ Some coded.1
   pub one : has_line_end finding.says ≡ false
 
 -- the finding is a warning about the line of this number

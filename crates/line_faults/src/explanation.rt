@@ -1,16 +1,16 @@
 //! What is found in a line.
 
-ghost use Rattle.std.specs.Prelude.{◌≡◌, ◌==◌, ◌++◌, ◌||◌, false, flat_map, not, OnOk, IfOk};
+ghost use Rattle.std.specs.Prelude.{◌≡◌, ◌==◌, ◌++◌, ◌||◌, false, flat_map, not, OnOk, IfOk, Some};
 ghost use Rattle.std.specs.String.{string_bytes};
+ghost use Rattle.event_lines.specs.Refusals.{Tells, coded, is_refusal};
 ghost use Rattle.event_lines.specs.Run.{has_line_end};
-ghost use Rattle.line_faults.specs.Explanation.{AreReasons, IsReason, IsTold, is_refusal};
+ghost use Rattle.line_faults.specs.Explanation.{AreReasons, IsReason, IsTold};
 ghost use Rattle.line_faults.specs.Finding.{written};
 ghost use Rattle.line_faults.specs.inner.Adding.{Adds, AddsOne, AreFound, SaysAs, one_line, warning_of};
 
 use crate::finding::{Finding, FindingForm};
 use crate::reason::{Line, reason_of, warnings_of};
 use crate::refused::Context;
-use crate::reply::{code_of, is_refusal, name_of};
 use crate::said::Said;
 use serde_json::Value;
 use std::alloc::{AllocError, Global};
@@ -30,16 +30,17 @@ fn on_one_line(text: &str) -> &str
     }
 }
 
-/// The finding that says why a line is refused.
-fn finding_of<'a>(line: &Line<'a>, why: &'a Said) -> Finding<'a>
+/// The finding that says why a line is refused, whose reply tells a refusal of this number and name.
+fn finding_of<'a>(line: &Line<'a>, code: u16, name: &'static str, why: &'a Said) -> Finding<'a>
+    requires { Tells line.now.reply.now (Some (code, name.now)) }
     ensures is { IsReason line.now.number line.now.reply.now result }
     ensures says { SaysAs why.now result }
 {
     Finding {
         line: line.number,
         reply: Some(line.reply),
-        refusal: code_of(line.reply),
-        name: Some(name_of(line.reply)),
+        refusal: Some(usize::from(code)),
+        name: Some(name),
         says: on_one_line(why.text.as_str()),
         column: why.column,
         member: why.member(),
@@ -48,18 +49,21 @@ fn finding_of<'a>(line: &Line<'a>, why: &'a Said) -> Finding<'a>
     }
 }
 
-/// Adds the finding that says why a line is refused.
+/// Adds the finding that says why a line is refused, with this refusal.
 fn push_reason(
     alloc: Global,
     form: FindingForm,
     text: &mut String,
     line: &Line<'_>,
+    refusal: (u16, &'static str),
     why: &Said,
 ) -> Result<(), AllocError>
+    requires { Tells line.now.reply.now (Some (refusal.0, refusal.1.now)) }
     ensures { OnOk result (AddsOne form (IsReason line.now.number line.now.reply.now)
         (string_bytes text.old) (string_bytes text.new)) }
 {
-    finding_of(line, why).push_to(alloc, form, text)
+    let (code, name) = refusal;
+    finding_of(line, code, name, why).push_to(alloc, form, text)
 }
 
 /// The warning with which this is said of the line of a number.
@@ -120,15 +124,16 @@ fn push_refusal(
     line: &Line<'_>,
     value: Option<&Value>,
 ) -> Result<(), AllocError>
+    requires { Tells line.now.reply.now (coded line.now.refusal) }
     ensures { OnOk result (Adds form
         (AreReasons (is_refusal line.now.reply.now) line.now.number line.now.reply.now)
         (string_bytes text.old) (string_bytes text.new)) }
 {
-    if !is_refusal(line.reply) {
+    let Some(refusal) = line.refusal else {
         return Ok(());
-    }
+    };
     let why = reason_of(alloc, context, line, value)?;
-    push_reason(alloc, form, text, line, &why)
+    push_reason(alloc, form, text, line, refusal, &why)
 }
 
 /// Whether there is a finding: a refusal, or one of this many warnings.
@@ -149,6 +154,7 @@ pub(crate) fn push_comments(
     line: &Line<'_>,
     value: Option<&Value>,
 ) -> Result<bool, AllocError>
+    requires { Tells line.now.reply.now (coded line.now.refusal) }
     ensures { IfOk result (λ found. Adds form
         (AreFound found (IsTold line.now.number line.now.reply.now))
         (string_bytes text.old) (string_bytes text.new)) }
@@ -156,5 +162,5 @@ pub(crate) fn push_comments(
     push_refusal(alloc, form, text, context, line, value)?;
     let warnings = warnings_of(alloc, context, line, value)?;
     push_warnings(alloc, form, text, line.number, &warnings)?;
-    Ok(is_any(is_refusal(line.reply), warnings.len()))
+    Ok(is_any(line.refusal.is_some(), warnings.len()))
 }

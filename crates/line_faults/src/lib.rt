@@ -20,7 +20,6 @@ mod notes;
 mod policy;
 mod reason;
 mod refused;
-mod reply;
 mod said;
 mod sentence;
 mod sequence;

@@ -3,7 +3,8 @@
 ghost use Rattle.std.specs.Prelude.{◌≡◌, ◌+◌, ◌≤◌, [], Some, IfOk};
 ghost use Rattle.std.specs.String.{string_bytes};
 ghost use Rattle.streams.specs.Streams.{most_input};
-ghost use Rattle.event_lines.specs.Replies.{reply_behind};
+ghost use Rattle.event_lines.specs.Refusals.{Tells};
+ghost use Rattle.event_lines.specs.Replies.{refusal_behind, reply_behind};
 ghost use Rattle.line_faults.specs.Explanation.{IsTold};
 ghost use Rattle.line_faults.specs.inner.Adding.{Adds, AreFound};
 ghost use Rattle.line_faults.specs.inner.Telling.{TellsReply, none_told, tally_of};
@@ -78,7 +79,8 @@ impl Notes {
         line: &[u8],
         ahead: &Ahead,
     ) -> Result<bool, AllocError>
-        requires { self.old.number ≤ most_input }
+        requires few { self.old.number ≤ most_input }
+        requires refusal { Tells (reply_behind run.now) (refusal_behind run.now) }
         ensures told { IfOk result (λ found. Adds self.old.form
             (AreFound found (IsTold (self.old.number + 1) (reply_behind run.now)))
             [] (string_bytes self.new.comments)) }
@@ -89,6 +91,7 @@ impl Notes {
             number: self.number + 1,
             bytes: line,
             reply: run.reply(),
+            refusal: run.refusal(),
         };
         let context = Context {
             net: run.net(),
@@ -113,7 +116,8 @@ impl Notes {
         line: &[u8],
         ahead: &Ahead,
     ) -> Result<(), RunFault>
-        requires { self.old.number ≤ most_input }
+        requires few { self.old.number ≤ most_input }
+        requires refusal { Tells (reply_behind run.now) (refusal_behind run.now) }
         ensures { TellsReply result (reply_behind run.now) (tally_of self.old) (tally_of self.new)
             (Some (string_bytes self.old.text)) (Some (string_bytes self.new.text)) }
     {

@@ -7,7 +7,6 @@ use crate::joining::push_broken_rule;
 use crate::json::push_break;
 use crate::policy::push_unread;
 use crate::refused::{Context, push_refused};
-use crate::reply::code_of;
 use crate::said::Said;
 use crate::topology::{bad_fields, push_event_first};
 use crate::turn::push_refused_turn;
@@ -20,12 +19,14 @@ use std::str;
 /// The most faults of a topology that are told.
 const MAX_FAULTS: usize = 16;
 
-/// A line of an input, with its number from 1, and its reply.
+/// A line of an input, with its number from 1, and its reply, with the number and the name of the
+/// refusal that it tells.
 #[derive(Clone, Copy)]
 pub(crate) struct Line<'a> {
     pub(crate) number: usize,
     pub(crate) bytes: &'a [u8],
     pub(crate) reply: &'a str,
+    pub(crate) refusal: Option<(u16, &'static str)>,
 }
 
 impl<'a> Line<'a> {
@@ -39,9 +40,9 @@ impl<'a> Line<'a> {
         Place::line(str::from_utf8(self.bytes).unwrap_or(""))
     }
 
-    /// The number of the refusal in its reply, if there is one.
+    /// The number of the refusal that its reply tells, if it tells one.
     fn code(&self) -> Option<usize> {
-        code_of(self.reply)
+        self.refusal.map(|(code, _)| usize::from(code))
     }
 }
 

@@ -16,13 +16,13 @@ returns-in_err-tell-in-Err-Topology c =
     (stands_at c.answer.new.self c.tell-in-Err-Topology.new.self)
     (Some (string_bytes c.args.notes.now.text)) (Some (string_bytes c.tell-in-Err-Topology.new.self.text))
     (refused_says c.answer.result (stage_behind c.args.run.now) (stage_behind c.answer.new.self) c.args.line.now
-    (reply_behind c.answer.new.self) (search (rules, c.in-Err-Topology.is, c.in-Err-Topology.field-0-is)) c.answer.ensures) c.in_err-tell-in-Err-Topology.ensures)
+    (reply_behind c.answer.new.self) (search (rules, c.in-Err-Topology.is, c.in-Err-Topology.field-0-is)) c.answer.ensures.replied) c.in_err-tell-in-Err-Topology.ensures)
 
 pub returns-in-Ok : goal.returns-in-Ok
 returns-in-Ok c =
     line_after c.tell.result c.args.line.now (reply_behind c.answer.new.self)
     (stands_at c.args.run.now c.args.notes.now) (stands_at c.answer.new.self c.tell.new.self)
-    (Some (string_bytes c.args.notes.now.text)) (Some (string_bytes c.tell.new.self.text)) c.in-Ok.ensures c.tell.ensures
+    (Some (string_bytes c.args.notes.now.text)) (Some (string_bytes c.tell.new.self.text)) c.in-Ok.ensures.replied c.tell.ensures
 
 pub returns-in_ok-tell-in-Err-Topology : goal.returns-in_ok-tell-in-Err-Topology
 returns-in_ok-tell-in-Err-Topology c =
@@ -30,4 +30,4 @@ returns-in_ok-tell-in-Err-Topology c =
     (closed_at (stands_at c.answer.new.self c.tell-in-Err-Topology.new.self))
     (Some (string_bytes c.args.notes.now.text)) (Some (string_bytes c.tell-in-Err-Topology.new.self.text))
     (refused_says c.answer.result (stage_behind c.args.run.now) (stage_behind c.answer.new.self) c.args.line.now
-    (reply_behind c.answer.new.self) (search (rules, c.in-Err-Topology.is, c.in-Err-Topology.field-0-is)) c.answer.ensures) c.in_ok-tell-in-Err-Topology.ensures
+    (reply_behind c.answer.new.self) (search (rules, c.in-Err-Topology.is, c.in-Err-Topology.field-0-is)) c.answer.ensures.replied) c.in_ok-tell-in-Err-Topology.ensures
