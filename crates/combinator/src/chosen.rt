@@ -184,7 +184,7 @@ impl<'a, 's> Chosen<'a, 's> {
                     decided => decided,
                 }
             }
-            // Both have as many pieces.
+            // Both have as many pieces, which the type of a pair of them can't say.
             _ => unreachable!(),
         }
     }

@@ -35,7 +35,7 @@ impl<'g, 'a, 's> Front<'g, 'a, 's> {
             Front::Zero => Front::One(group),
             Front::One(first) => Front::Two(first, group),
             Front::Two(first, second) => Front::Three(first, second, group),
-            // No group stands behind three.
+            // No group stands behind three; a type of at most two would be all this once more.
             Front::Three(_, _, _) => unreachable!(),
         }
     }
@@ -78,7 +78,7 @@ impl<'g, 'a, 's> Front<'g, 'a, 's> {
         ensures { pieces_in result ≡ heads_of (groups_in self.now) }
     {
         match self {
-            // There is a group.
+            // There is a group; but a search begins with none, so the type has this case.
             Front::Zero => unreachable!(),
             Front::One(first) => Chosen::One(first.head()),
             Front::Two(first, second) => Chosen::Two(first.head(), second.head()),
@@ -173,7 +173,7 @@ pub(crate) fn best<'g, 'a, 's>(front: &Front<'g, 'a, 's>) -> Chosen<'a, 's>
     ensures { IsBestOf (groups_in front.now) (pieces_in result) }
 {
     match front {
-        // There is a group.
+        // There is a group; but a search begins with none, so the type has this case.
         Front::Zero => unreachable!(),
         Front::One(first) => Chosen::One(first.least_until(first.expiry())),
         Front::Two(first, second) => {

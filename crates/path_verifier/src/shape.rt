@@ -255,7 +255,7 @@ pub(crate) fn expiry_of(held: &PieceSlots<'_>) -> u64
     ensures { IsExpiry (pieces_in held.now) result }
 {
     match held {
-        // A path has a piece.
+        // A path has a piece (`some`); what a path is made of begins with none.
         PieceSlots::Zero => unreachable!(),
         PieceSlots::One(first) => first.expiry(),
         PieceSlots::Two(first, second) => first.expiry().min(second.expiry()),

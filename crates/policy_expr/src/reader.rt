@@ -134,7 +134,8 @@ impl<A: Allocator + Clone> Reader<A> {
                 Ok(())
             }
             Token::Open => self.open(),
-            // The text was judged before: an item begins with no other token.
+            // The text was judged before (`lawful`): an item begins with no other token. A type of
+            // these two would have this arm where it is made.
             _ => unreachable!(),
         }
     }
@@ -178,7 +179,8 @@ impl<A: Allocator + Clone> Reader<A> {
                 Ok(())
             }
             Token::Close => self.close(item),
-            // The text was judged before.
+            // The text was judged before (`lawful`). The judge has to have this token, and reads the
+            // same tokens.
             Token::Other => unreachable!(),
             Token::Hop(_) | Token::Open => {
                 let before = self.level.whole(&self.alloc, item)?;

@@ -168,7 +168,7 @@ impl<J: RunFacts> CarriedFlight<J> {
             PacketLocation::AtRouter(_) => return Err(self),
             PacketLocation::Delivered => End::Delivered(job.turns),
             PacketLocation::Refused(_, _, refusal) => End::Refused(refusal, job.turns),
-            // Routers lose no packet.
+            // Routers lose no packet; but links do, and a packet's place is of one type for both.
             PacketLocation::Lost => unreachable!(),
         };
         Ok(FlightEnd {

@@ -248,6 +248,6 @@ fn end_of<J: RunFacts, R: Wait>(rt: &R, row: &[Option<FlightEnd<J>>], number: us
     for _ in rt.forever() {
         thread::yield_now();
     }
-    // `forever` does not end.
+    // `forever` does not end; but it is an iterator, so its loop has an end for the type.
     unreachable!()
 }

@@ -229,7 +229,7 @@ pub(crate) fn work<J: RunFacts, R: Wait, G: Gate>(
         let taken = empty_inbox(rt, state, number, &mut receiver, &mut senders, &mut ends);
         pause(taken);
     }
-    // `forever` does not end.
+    // `forever` does not end; but it is an iterator, so its loop has an end for the type.
     unreachable!()
 }
 
@@ -254,7 +254,7 @@ fn empty_inbox<J: RunFacts, R: Wait, G: Gate>(
         }
         taken = taken.saturating_add(1);
     }
-    // `forever` does not end.
+    // `forever` does not end; but it is an iterator, so its loop has an end for the type.
     unreachable!()
 }
 

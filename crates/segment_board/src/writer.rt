@@ -149,7 +149,8 @@ impl BoardWriter {
         };
         match op {
             StoreOp::Register(value, _) => Err(AllocFailed { value }),
-            // What is given back is the registration.
+            // What is given back is the registration: `add` takes both operations, so its type
+            // can't say which.
             StoreOp::Sweep(_) => unreachable!(),
         }
     }
