@@ -3,7 +3,7 @@
 use crate::found::{Place, push_found, push_place};
 use crate::history::{History, Makers, address_at, interface_at, number_at, word_of};
 use crate::said::Said;
-use crate::sentence::push_sentence;
+use crate::sentence::{own_subject, push_sentence};
 use forwarding::{PacketLocation, RouterStop};
 use isd_as::{IfId, IsdAs};
 use network_core::Net;
@@ -40,19 +40,14 @@ fn subject_of(context: &Context<'_>, code: usize, event: &Value) -> &'static str
         42 if word == "originate" => "egress",
         14 | 33 | 40 | 44 => "ia",
         41 | 43 => "egress",
-        31 | 42 | 50 | 51 | 132 => "beacon",
+        31 | 42 | 50 | 51 => "beacon",
         17 => "if",
         67 => "options",
         85 => "dst",
         133 if is_answered(context, event) => "path",
-        133 => "ask",
-        70..=82 | 130 | 131 | 139 => "packet",
+        70..=82 => "packet",
         11 => "key",
-        134 => "now",
-        135 => "payload",
-        136 => "at",
-        137 => "limit",
-        _ => "do",
+        _ => own_subject(code),
     }
 }
 

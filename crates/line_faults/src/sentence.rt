@@ -87,6 +87,26 @@ fn push_among<F: NumberedFault>(
     Ok(())
 }
 
+/// Adds the sentence of the event's own refusal of this number, if there is one.
+fn push_own(why: &mut Said, code: usize) -> Result<(), AllocError> {
+    for (fault, _) in &OWN_FAULTS {
+        if usize::from(fault.code()) == code {
+            return write!(why.text, "{fault}");
+        }
+    }
+    Ok(())
+}
+
+/// The member that the event's own refusal of this number is about; the word, if there is none.
+pub(crate) fn own_subject(code: usize) -> &'static str {
+    for (fault, subject) in &OWN_FAULTS {
+        if usize::from(fault.code()) == code {
+            return subject;
+        }
+    }
+    "do"
+}
+
 /// Adds the sentence of the refusal of this number; nothing if no line is refused with it.
 pub(crate) fn push_sentence(why: &mut Said, code: usize) -> Result<(), AllocError> {
     match code {
@@ -97,6 +117,6 @@ pub(crate) fn push_sentence(why: &mut Said, code: usize) -> Result<(), AllocErro
         67 => push_among(why, &OPTION, code),
         70..=82 => push_among(why, &PATH, code),
         85 => push_among(why, &COMBINATION, code),
-        _ => push_among(why, &OWN_FAULTS, code),
+        _ => push_own(why, code),
     }
 }

@@ -62,18 +62,19 @@ pub enum EventFault {
     NotDelivered,
 }
 
-/// The refusals that are an event's own, and not passed on from a crate below.
-pub static OWN_FAULTS: [EventFault; 10] = [
-    EventFault::NoPacket,
-    EventFault::NotInFlight,
-    EventFault::NoBeacon,
-    EventFault::NoAnswer,
-    EventFault::TimeBack,
-    EventFault::PayloadTooLong,
-    EventFault::BadOffset,
-    EventFault::BadLimit,
-    EventFault::TooMany,
-    EventFault::NotDelivered,
+/// The refusals that are an event's own, and not passed on from a crate below; each with the member
+/// of the event's line that it is about, which is its word `do` where it is about no other.
+pub static OWN_FAULTS: [(EventFault, &str); 10] = [
+    (EventFault::NoPacket, "packet"),
+    (EventFault::NotInFlight, "packet"),
+    (EventFault::NoBeacon, "beacon"),
+    (EventFault::NoAnswer, "ask"),
+    (EventFault::TimeBack, "now"),
+    (EventFault::PayloadTooLong, "payload"),
+    (EventFault::BadOffset, "at"),
+    (EventFault::BadLimit, "limit"),
+    (EventFault::TooMany, "do"),
+    (EventFault::NotDelivered, "packet"),
 ];
 
 impl NumberedFault for EventFault {
