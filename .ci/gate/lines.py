@@ -1,6 +1,8 @@
-"""Writes two tables of docs/lines.md: the members of an AS, by the comments in `event_lines`, and
-the refusals of each event in their order, by the definition of a step of `network_core` and those
-that it cites."""
+"""Writes four tables of docs/lines.md: the words of lines with their members, what happens and how
+it is answered, by the table of lines in `event_lines` and its comments; the values of these
+members; the members of an AS, by their comments there; and the refusals of each event in their
+order, by the definition of a step of `network_core` and those that it cites. It also writes the
+words of lines with their members into the help of `scionet run`."""
 import itertools
 import re
 import sys
@@ -14,8 +16,23 @@ from gate.specs import Definition, Specs
 
 PAGE = Path("docs/lines.md")
 MEMBERS = Path("crates/event_lines/src/members.rt")
+LINES = Path("crates/event_lines/src/line.rt")
+HELP = Path("crates/commands/src/words.rt")
 FAULTS = Path("crates/network_core/src/fault.rt")
 EVENT_FAULT = "EventFault"
+
+# What the table of lines does not say of a word's members.
+BESIDE = {"ask": ", and a policy (below)"}
+
+# The values of members by their forms.
+VALUES = {
+    "Address": "addresses",
+    "Bytes": "bytes",
+    "Limit": "0 to 4,294,967,295; of these, 1 to 64 are not refused",
+}
+
+# The columns of words in the help, and the blanks between them.
+COLUMNS, BETWEEN = 3, 2
 
 # A definition that tells two cases, and the refusal of the second, which comes before the first.
 FIRST_OF_CASES = {"Sends": "faults.Path"}
@@ -24,6 +41,11 @@ FIRST_OF_CASES = {"Sends": "faults.Path"}
 Refused = tuple[str, str | None]
 
 CRATES = {one[0]: crate for crate, types in TYPES.items() for one in types}
+
+
+def comment_of(lines: str) -> str:
+    """The text of a comment's lines."""
+    return " ".join(re.findall(r"// (.*)", lines))
 
 
 def members() -> Iterator[str]:
@@ -35,7 +57,57 @@ def members() -> Iterator[str]:
     if len(found) != int(table[1]):
         sys.exit(f"{MEMBERS} has a member of an AS without a comment")
     for comment, name in found:
-        yield f"| `{name}` | {re.sub(r' *// *', ' ', comment).replace(chr(10), '').strip()} |"
+        yield f"| `{name}` | {comment_of(comment)} |"
+
+
+# A line of the table: its word, its members each with its form, and what is said of it.
+Row = tuple[str, list[tuple[str, str]], str]
+
+
+def table_of_lines() -> Iterator[Row]:
+    """The table of lines, in its order."""
+    text = LINES.read_text(encoding="utf-8")
+    lists = {name: re.findall(r'Member\("(\w+)", (?:MemberForm::)?(\w+)', body)
+             for name, body in re.findall(r"^static (\w+): \[Member; \d+\] = (.*?);$", text, re.M | re.S)}
+    arms = re.findall(r'((?: +// .*\n)*) +"(\w+)" => Some\(&(\w+)\)', text)
+    for comment, word, name in arms:
+        said = comment_of(comment)
+        if said.count("|") != 1:
+            sys.exit(f"{LINES} says above {word!r} not what happens | how it is answered")
+        yield word, lists[name], said
+    if len(arms) != len(re.findall(r'^ +"\w+",$', text, re.M)):
+        sys.exit(f"{LINES} has other words than arms of `members_of`")
+
+
+def words_of_lines() -> Iterator[str]:
+    """The rows of words: the other members, what happens, and how it is answered."""
+    for word, listed, said in table_of_lines():
+        named = ", ".join(f"`{name}`" for name, _ in listed) + BESIDE.get(word, "")
+        yield f"| `{word}` | {named} | {said} |".replace("|  |", "| |")
+
+
+def values() -> Iterator[str]:
+    """The rows of members by their values: first numbers, then texts."""
+    text = MEMBERS.read_text(encoding="utf-8")
+    found = re.findall(r"const (\w+): MemberForm = MemberForm::Whole\((\d+), ([\d_]+)\);", text)
+    ranges = {name: f"{low} to {most.replace('_', ',')}" for name, low, most in found[::-1]}
+    named: dict[str, list[str]] = {told: [] for told in [*ranges.values(), *VALUES.values()]}
+    for _, listed, _ in table_of_lines():
+        for name, form in listed:
+            names = named[{**ranges, **VALUES}[form]]
+            if f"`{name}`" not in names:
+                names.append(f"`{name}`")
+    for told, names in named.items():
+        yield f"| {', '.join(names)} | {told} |"
+
+
+def help_of_words() -> str:
+    """The words of lines with their other members, in columns."""
+    cells = [" ".join([word, *(name for name, _ in listed)]) for word, listed, _ in table_of_lines()]
+    rows = [cells[at : at + COLUMNS] for at in range(0, len(cells), COLUMNS)]
+    widths = [max(map(len, column)) + BETWEEN for column in itertools.zip_longest(*rows, fillvalue="")]
+    lines = ("".join(f"{cell:{width}}" for cell, width in zip(row, widths)) for row in rows)
+    return "".join(f"  {line.rstrip()}\n" for line in lines)
 
 
 def equations_of(one: Definition, *patterns: str | None) -> Definition:
@@ -106,21 +178,21 @@ class Refusals:
         return ", ".join(it for it, _ in itertools.groupby(told))
 
 
-def readings(specs: Specs) -> Iterator[tuple[str, str]]:
-    """The words of lines, each with the definition that reads its members."""
-    for name in "event_in", "plain_event", "traffic_event":
-        text = specs.definition(f"event_lines/Line.{name}").said
-        for part in text.split('bytes_eq word (codes "')[1:]:
-            word, _, body = part.partition('"')
-            called = re.search(r"then (\w+_in) d", body)
-            yield word, specs.definition(f"event_lines/Line.{called[1]}").said if called else body
+def readings(specs: Specs, name: str = "lines") -> Iterator[tuple[str, str]]:
+    """The words of lines, each with what the table of lines says of its members and its value."""
+    text = specs.definition(f"event_lines/Line.{name}").said.partition(f"\n{name} =")[2]
+    for part in re.split(r"\b(?:line|word =)(?= \(?codes)|(?=\b\w+_lines?\b)", text)[1:]:
+        if cited := re.match(r"\w+_lines?\b", part):
+            yield from readings(specs, cited[0])
+        elif word := re.match(r' \(?codes "(\w+)"', part):
+            yield word[1], part[word.end():]
 
 
 def events(specs: Specs) -> list[tuple[tuple[str, str | None], str]]:
     """The words of lines by the event and the route that they mean, in the order of events."""
     words: dict[tuple[str, str | None], str] = {}
     for word, body in readings(specs):
-        if made := re.search(r"Some \(?(\w+)(?: \((\w+))?", body):
+        if made := re.search(r"Happens \(?(\w+)(?: \((\w+))?", body):
             words[made[1], made[2]] = word
     order = specs.definition("network_core/Event.EventValue").variants
     return sorted(words.items(), key=lambda it: order.index(it[0][0]))
@@ -149,16 +221,32 @@ def refusals() -> Iterator[str]:
 
 def written(text: str) -> str:
     """The page with its tables."""
-    tables = {"| member of an AS | value |": members(), "| `do` | refusals |": refusals()}
+    tables = {
+        "| member of an AS | value |": members(),
+        "| `do` | other members | what happens | reply |": words_of_lines(),
+        "| members | value |": values(),
+        "| `do` | refusals |": refusals(),
+    }
     for head, rows in tables.items():
-        table = re.compile(rf"(?<={re.escape(head)}\n\|---\|---\|\n)(?:\|.*\n)+")
+        table = re.compile(rf"(?<={re.escape(head)}\n)(\|[-|]+\n)(?:\|.*\n)+")
         if not table.search(text):
             sys.exit(f"{PAGE} has no table with the head {head}")
         lines = "".join(f"{it}\n" for it in rows)
-        text = table.sub(lambda _: lines, text)
+        text = table.sub(lambda found, lines=lines: found[1] + lines, text)
     return text
 
 
+def helped(text: str) -> str:
+    """The help with the words of lines."""
+    block = re.compile(r"(?<=these are the words with the other members:\n)(?:  .*\n)+")
+    if not block.search(text):
+        sys.exit(f"{HELP} has no words of lines")
+    return block.sub(lambda _: help_of_words(), text)
+
+
 def main(words: Sequence[str]) -> int:
-    made = lambda: {str(PAGE): written(PAGE.read_text(encoding="utf-8"))}
+    made = lambda: {
+        str(PAGE): written(PAGE.read_text(encoding="utf-8")),
+        str(HELP): helped(HELP.read_text(encoding="utf-8")),
+    }
     return settle(__name__, __doc__, words, made)

@@ -54,11 +54,11 @@ NAME' if it is refused; a turn in which a router refuses the packet is answered 
 NAME'. A topology that is refused is answered by 'topology no CODE NAME' and ends the run.
 
 The member 'do' is the event's word; these are the words with the other members:
-  tick now                  originate ia egress beta0  extend beacon ia egress
-  terminate beacon ia       sweep                      ask src dst limit
-  send ask path payload     turn packet                show packet
-  back packet payload       lose packet                alter packet at xor
-  cut ia if                 mend ia if                 rotate ia key
+  tick now               originate ia egress beta0  extend beacon ia egress
+  terminate beacon ia    sweep                      ask src dst limit
+  send payload ask path  back payload packet        turn packet
+  lose packet            alter packet at xor        cut ia if
+  mend ia if             rotate key ia              show packet
 
 Beacons, answers, their paths and packets are named by their numbers, from 0. 'now' is in seconds \
 since 1970, 'exp' a lifetime of (exp + 1) times 337.5 seconds, 'limit' 1 to 64 paths, 'key' 1 to \

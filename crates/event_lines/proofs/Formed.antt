@@ -1,11 +1,10 @@
 -- An object is a line exactly if it has each member of its word in its form.
 use Rattle.std.proofs.Common.{◌≡◌, ℕ, ◌%◌, ◌&&◌, Bool, true, false, if◌then◌else◌, codes, List, [], ◌∷◌, length, Option, Some, None, Result, Ok, Err, is_some, is_ok, refl, sym, ap, ◌∙◌, true≢false, arith}
-use Rattle.std.specs.Prelude.{◌↔◌, ◌≤◌, ◌||◌, IsTrue, nat_le, not, option_and_then, option_map}
-use Rattle.std.specs.List.{AllPass, list_all}
+use Rattle.std.specs.Prelude.{◌↔◌, ◌≤◌, ◌||◌, IsTrue, nat_le, not, option_and_then}
+use Rattle.std.specs.List.{AllPass, list_all, list_any}
 use Rattle.std.specs.Result.{result_ok}
 use Rattle.std.specs.Str.{bytes_eq}
 use Rattle.std.proofs.lemmas.Bool.{le-leb, leb-true}
-use Rattle.std.proofs.lemmas.Slice.Eq.{bytes_eq-Decides}
 use Rattle.serde_json.specs.Data.{Data, null, boolean, number, string, array, object}
 use Rattle.serde_json.specs.Find.{get, as_bool, as_number, as_str, as_u64}
 use Rattle.hex.specs.Hex.{decode_of, is_hex_digit}
@@ -21,8 +20,9 @@ use Rattle.scion_topology.specs.Network.{is_wildcard}
 use Rattle.scion_topology.specs.Reading.{address_in, as_entry_at, class_at, end_at, key_at, link_at}
 use Rattle.event_lines.specs.declared.members.MemberForm.{MemberForm}
 use Rattle.event_lines.specs.declared.members.MemberForm.TheVariants.{Address, AsAddress, Bytes, Key, Limit, LinkKind, Object, Truth, Whole}
-use Rattle.event_lines.specs.Line.{Happens, ask_in, back_in, byte_at, bytes_at, event_in, ia_in, line_with_word, long_at, options_in, plain_event, rotate_in, send_in, short_at, show_in, traffic_event}
-use Rattle.event_lines.specs.Members.{MemberValue, alter_members, as_members, ask_members, back_members, byte_form, event_members, extend_members, first_misfit, has_end, has_form, has_link, has_member, has_members, has_these, is_formed, is_of_form, is_plain, interface_members, line_words, long_form, members_of, number_within, originate_members, packet_members, plain_members, rotate_members, send_members, short_form, terminate_members, text_passes, tick_members, traffic_members}
+use Rattle.event_lines.specs.Line.{LineForm, LineValue, OfMembers, OfPolicy, bytes_at, fits, form_with, has_policy, ia_in, is_formed, line_with_word, line_words, lines, made_of, made_of_policy, members_of, options_in, plain_lines, read_among, read_by, traffic_lines, value_at}
+use Rattle.policy_expr.specs.Options.{OptionTexts}
+use Rattle.event_lines.specs.Members.{MemberValue, as_members, first_misfit, has_end, has_form, has_link, has_member, has_members, is_of_form, is_plain, named, number_within, text_passes}
 
 -- ---- values by their form
 
@@ -67,7 +67,7 @@ within : (low high : ℕ) (number : Option ℕ)
 within low high None = refl
 within low high (Some n) = if_some (nat_le low n && nat_le n high) n
 
-whole_there : (low high : ℕ) (name : List ℕ) (d : Data)
+pub whole_there : (low high : ℕ) (name : List ℕ) (d : Data)
     → is_some (whole_at low high name d) ≡ is_of_form (Whole low high) (get name d)
 unfolding whole_at
 whole_there low high name d = of (get name d)
@@ -93,136 +93,79 @@ goes_on : {A B : Type 0} (a : Option A) (f : A → Option B) (p q : Bool) → is
 goes_on None f p q there behind = ap (λ b. b && q) there
 goes_on (Some x) f p q there behind = behind x ∙ ap (λ b. b && q) there
 
-happens : (event : Option _) → is_some (option_map Happens event) ≡ is_some event
-happens None = refl
-happens (Some event) = refl
+-- ---- lines
 
--- ---- one word after another
-
--- a value, or else another, is there exactly if these members are, or else others
-choose : {A : Type 0} (b : Bool) (x y : Option A) (m n : Option (List MemberValue)) (policy : Bool)
-    (d : Data) → (b ≡ true → is_some x ≡ has_these policy m d)
-    → (b ≡ false → is_some y ≡ has_these policy n d)
-    → is_some (if b then x else y) ≡ has_these policy (if b then m else n) d
-choose true x y m n policy d holds fails = holds refl
-choose false x y m n policy d holds fails = fails refl
-
-abbrev policy_of : List ℕ → Data → Bool
-policy_of word d = if bytes_eq word (codes "ask") then is_some (options_in d) else true
-
--- no policy is looked at
-free : (word : List ℕ) (members : List MemberValue) (d : Data) (found : Bool)
-    → bytes_eq word (codes "ask") ≡ false → found ≡ has_members members d
-    → found ≡ has_these (policy_of word d) (Some members) d
-free word members d found other is =
-    is ∙ ap (λ b. (if b then is_some (options_in d) else true) && has_members members d) (sym other)
-
-shown_is_not_asked : (word : List ℕ) → bytes_eq word (codes "show") ≡ true
-    → bytes_eq word (codes "ask") ≡ false
-shown_is_not_asked word is =
-    ap (λ w. bytes_eq w (codes "ask")) ((bytes_eq-Decides word (codes "show")).0 is)
-
-long_there : (name : List ℕ) (d : Data)
-    → is_some (long_at name d) ≡ is_of_form long_form (get name d)
-long_there = whole_there 0 4294967295
-
-short_there : (name : List ℕ) (d : Data)
-    → is_some (short_at name d) ≡ is_of_form short_form (get name d)
-short_there = whole_there 0 65535
-
-byte_there : (name : List ℕ) (d : Data)
-    → is_some (byte_at name d) ≡ is_of_form byte_form (get name d)
-byte_there = whole_there 0 255
-
-traffic_formed : (word : List ℕ) (d : Data) → bytes_eq word (codes "ask") ≡ false
-    → is_some (traffic_event word d) ≡ has_these (policy_of word d) (traffic_members word) d
-unfolding traffic_event
-traffic_formed word d other =
-    choose (bytes_eq word (codes "turn")) _ _ _ _ (policy_of word d) d
-    (λ _. free word packet_members d _ other
-    (goes_on _ _ _ _ (long_there (codes "packet") d) (λ _. refl)))
-    (λ _. choose (bytes_eq word (codes "lose")) _ _ _ _ (policy_of word d) d
-    (λ _. free word packet_members d _ other
-    (goes_on _ _ _ _ (long_there (codes "packet") d) (λ _. refl)))
-    (λ _. choose (bytes_eq word (codes "alter")) _ _ _ _ (policy_of word d) d
-    (λ _. free word alter_members d _ other
-    (goes_on _ _ _ _ (long_there (codes "packet") d)
-    (λ _. goes_on _ _ _ _ (long_there (codes "at") d)
-    (λ _. goes_on _ _ _ _ (byte_there (codes "xor") d) (λ _. refl)))))
-    (λ _. choose (bytes_eq word (codes "cut")) _ _ _ _ (policy_of word d) d
-    (λ _. free word interface_members d _ other
-    (goes_on _ _ _ _ (address_there (codes "ia") d)
-    (λ _. goes_on _ _ _ _ (short_there (codes "if") d) (λ _. refl))))
-    (λ _. choose (bytes_eq word (codes "mend")) _ _ _ _ (policy_of word d) d
-    (λ _. free word interface_members d _ other
-    (goes_on _ _ _ _ (address_there (codes "ia") d)
-    (λ _. goes_on _ _ _ _ (short_there (codes "if") d) (λ _. refl))))
-    (λ _. refl)))))
-
-plain_formed : (word : List ℕ) (d : Data) → bytes_eq word (codes "ask") ≡ false
-    → is_some (plain_event word d) ≡ has_these (policy_of word d) (plain_members word) d
-unfolding plain_event
-plain_formed word d other =
-    choose (bytes_eq word (codes "tick")) _ _ _ _ (policy_of word d) d
-    (λ _. free word tick_members d _ other
-    (goes_on _ _ _ _ (long_there (codes "now") d) (λ _. refl)))
-    (λ _. choose (bytes_eq word (codes "originate")) _ _ _ _ (policy_of word d) d
-    (λ _. free word originate_members d _ other
-    (goes_on _ _ _ _ (address_there (codes "ia") d)
-    (λ _. goes_on _ _ _ _ (short_there (codes "egress") d)
-    (λ _. goes_on _ _ _ _ (short_there (codes "beta0") d) (λ _. refl)))))
-    (λ _. choose (bytes_eq word (codes "extend")) _ _ _ _ (policy_of word d) d
-    (λ _. free word extend_members d _ other
-    (goes_on _ _ _ _ (long_there (codes "beacon") d)
-    (λ _. goes_on _ _ _ _ (address_there (codes "ia") d)
-    (λ _. goes_on _ _ _ _ (short_there (codes "egress") d) (λ _. refl)))))
-    (λ _. choose (bytes_eq word (codes "terminate")) _ _ _ _ (policy_of word d) d
-    (λ _. free word terminate_members d _ other
-    (goes_on _ _ _ _ (long_there (codes "beacon") d)
-    (λ _. goes_on _ _ _ _ (address_there (codes "ia") d) (λ _. refl))))
-    (λ _. choose (bytes_eq word (codes "sweep")) _ _ _ _ (policy_of word d) d
-    (λ _. free word [] d _ other refl)
-    (λ _. traffic_formed word d other)))))
-
-event_formed : (word : List ℕ) (d : Data)
-    → is_some (event_in word d) ≡ has_these (policy_of word d) (event_members word) d
-unfolding ask_in send_in back_in rotate_in
-event_formed word d =
-    choose (bytes_eq word (codes "ask")) _ _ _ _ (policy_of word d) d
-    (λ is. asked is (goes_on (options_in d) _ _ (has_members ask_members d) refl
-    (λ _. goes_on _ _ _ _ (address_there (codes "src") d)
-    (λ _. goes_on _ _ _ _ (address_there (codes "dst") d)
-    (λ _. goes_on _ _ _ _ (limit_there (codes "limit") d) (λ _. refl))))))
-    (λ other. choose (bytes_eq word (codes "send")) _ _ _ _ (policy_of word d) d
-    (λ _. free word send_members d _ other
-    (goes_on _ _ _ _ (bytes_there (codes "payload") d)
-    (λ _. goes_on _ _ _ _ (long_there (codes "ask") d)
-    (λ _. goes_on _ _ _ _ (long_there (codes "path") d) (λ _. refl)))))
-    (λ _. choose (bytes_eq word (codes "back")) _ _ _ _ (policy_of word d) d
-    (λ _. free word back_members d _ other
-    (goes_on _ _ _ _ (bytes_there (codes "payload") d)
-    (λ _. goes_on _ _ _ _ (long_there (codes "packet") d) (λ _. refl))))
-    (λ _. choose (bytes_eq word (codes "rotate")) _ _ _ _ (policy_of word d) d
-    (λ _. free word rotate_members d _ other
-    (goes_on _ _ _ _ (bytes_there (codes "key") d)
-    (λ _. goes_on _ _ _ _ (address_there (codes "ia") d) (λ _. refl))))
-    (λ _. plain_formed word d other))))
+-- lines have a member of this form
+abbrev is_read : MemberValue → Bool
+is_read member = of member.form
   where
-    asked : {found : Bool} → bytes_eq word (codes "ask") ≡ true
-        → found ≡ (is_some (options_in d) && has_members ask_members d)
-        → found ≡ has_these (policy_of word d) (Some ask_members) d
-    asked is found = found
-        ∙ ap (λ b. (if b then is_some (options_in d) else true) && has_members ask_members d)
-        (sym is)
+    of : MemberForm → Bool
+    of Address = true
+    of (Whole low high) = true
+    of Limit = true
+    of Bytes = true
+    of form = false
+
+value_there : (form : MemberForm) (name : List ℕ) (d : Data)
+    → is_read (named name form) ≡ true → is_some (value_at form name d) ≡ is_of_form form (get name d)
+value_there Address name d is = address_there name d
+value_there (Whole low high) name d is = whole_there low high name d
+value_there Limit name d is = limit_there name d
+value_there Bytes name d is = bytes_there name d
+value_there form name d is = absurd (true≢false (sym is))
+
+both : (a b : Bool) → (a && b) ≡ true → (a ≡ true) × (b ≡ true)
+both true true is = (refl, refl)
+both true false is = absurd (true≢false (sym is))
+both false b is = absurd (true≢false (sym is))
+
+made_there : (A : Type 0) (members : List MemberValue) (make : OfMembers members A) (d : Data)
+    → list_all is_read members ≡ true → is_some (made_of members make d) ≡ has_members members d
+made_there A [] made d are = refl
+made_there A (member ∷ members) make d are =
+    let each = both (is_read member) (list_all is_read members) are in
+    goes_on _ _ _ _ (value_there member.form member.name d each.0)
+    (λ value. made_there A members (make value) d each.1)
+
+policy_there : (A : Type 0) (policy : Bool) (make : OfPolicy policy A) (d : Data)
+    → is_some (made_of_policy policy make d) ≡ has_policy policy d
+policy_there A false made d = refl
+policy_there A true make d = of (options_in d)
+  where
+    of : (options : Option (List OptionTexts))
+        → is_some (options >>= (λ o. Some (make o))) ≡ is_some options
+    of None = refl
+    of (Some options) = refl
+
+line_there : (form : LineForm) (d : Data) → list_all is_read form.members ≡ true
+    → is_some (read_by form d) ≡ fits (Some form) d
+line_there form d are =
+    goes_on _ _ _ _ (policy_there (OfMembers form.members LineValue) form.policy form.value d)
+    (λ value. made_there LineValue form.members value d are)
+
+-- the table's next form has the word, or a later one
+either : (b : Bool) (form : LineForm) (later : Option LineForm) (d : Data)
+    → list_all is_read form.members ≡ true
+    → is_some (later >>= (λ found. read_by found d)) ≡ fits later d
+    → is_some ((if b then Some form else later) >>= (λ found. read_by found d))
+    ≡ fits (if b then Some form else later) d
+either true form later d are behind = line_there form d are
+either false form later d are behind = behind
+
+abbrev are_read : LineForm → Bool
+are_read form = list_all is_read form.members
+
+among : (forms : List LineForm) (word : List ℕ) (d : Data) → list_all are_read forms ≡ true
+    → is_some (read_among forms word d) ≡ fits (form_with word forms) d
+among [] word d are = refl
+among (form ∷ forms) word d are =
+    let each = both (are_read form) (list_all are_read forms) are in
+    either (bytes_eq word form.word) form (form_with word forms) d each.0 (among forms word d each.1)
 
 pub lines_are_formed : (word : List ℕ) (d : Data)
     → is_some (line_with_word word d) ≡ is_formed word d
-unfolding line_with_word members_of show_in
-lines_are_formed word d =
-    choose (bytes_eq word (codes "show")) _ _ _ _ (policy_of word d) d
-    (λ is. free word packet_members d _ (shown_is_not_asked word is)
-    (goes_on _ _ _ _ (long_there (codes "packet") d) (λ _. refl)))
-    (λ _. happens (event_in word d) ∙ event_formed word d)
+unfolding line_with_word plain_lines traffic_lines
+lines_are_formed word d = among lines word d refl
 
 -- ---- topologies
 
@@ -429,5 +372,10 @@ none_misfits (member ∷ members) d = either (has_member member d) (none_misfits
 -- ---- words
 
 pub words_have_members : list_all (λ word. is_some (members_of word)) line_words ≡ true
-unfolding members_of
+unfolding members_of plain_lines traffic_lines
 words_have_members = refl
+
+pub lines_have_words :
+    list_all (λ form. list_any (bytes_eq form.word) line_words) lines ≡ true
+unfolding plain_lines traffic_lines
+lines_have_words = refl

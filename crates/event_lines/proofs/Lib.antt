@@ -8,4 +8,5 @@ pub mod Heard
 pub mod Writing
 pub mod Running
 pub mod Formed
+pub mod PolicyFormed
 pub mod Tells

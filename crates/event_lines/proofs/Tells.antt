@@ -1,6 +1,5 @@
 -- What replies tell of refusals.
-use Rattle.std.proofs.Common.{◌≡◌, ℕ, ◌||◌, ◌==◌, not, codes, Bool, true, false, List, [], ◌∷◌, ◌++◌, Option, Some, None, Result, Ok, Err, IfOk, OnOk, refl, sym, ap, ◌∙◌, subst, inl, inr}
-use denote.Ref.{Bor}
+use Rattle.std.proofs.Common.{◌≡◌, ℕ, ◌||◌, ◌==◌, not, codes, Bool, true, false, List, [], ◌∷◌, ◌++◌, Option, Some, None, Result, Ok, Err, OnOk, refl, sym, ap, ◌∙◌, subst, inl, inr}
 use Rattle.std.specs.Fmt.{decimal, digits}
 use Rattle.std.specs.List.{list_any}
 use Rattle.std.proofs.lemmas.List.Folds.{list_any-append}
@@ -25,7 +24,7 @@ use Rattle.network_core.specs.declared.reply.Reply.TheVariants.{Done, Begun, Reg
 use Rattle.network_core.specs.Value.{NetValue, PacketValue}
 use Rattle.event_lines.specs.Answers.{begun_text, refused_text}
 use Rattle.event_lines.specs.Text.{bad_line, fault_text, outcome_text, packet_text, passed_text, place_text, reply_text, turn_text}
-use Rattle.event_lines.specs.Refusals.{BeginsWith, Tells, bad_line_refusal, coded, hyphen, is_refusal, is_refused_turn, refusal_of, refusal_shown, refusal_text}
+use Rattle.event_lines.specs.Refusals.{BeginsWith, Tells, bad_line_refusal, hyphen, is_refusal, is_refused_turn, refusal_of, refusal_shown, refusal_text}
 
 pub fault_tells : (fault : EventFault) → Tells (fault_text fault) (refusal_of (Refused fault))
 fault_tells fault = (refl, inl refl)
@@ -132,11 +131,11 @@ shown_tells (Some one) = place_tells one.packet.place (passed_text one.packet.pa
 -- ---- in what was written
 
 -- what was written behind no bytes tells the refusal of its text
-pub tells_as : {F : Type 0} (written : Result (Option (ℕ × Bor (List ℕ))) F)
-    (before after text : List ℕ) (refusal : Option (ℕ × List ℕ)) → before ≡ [] → Tells text refusal
-    → OnOk written (after ≡ before ++ text) → IfOk written (λ told. coded told ≡ refusal)
-    → IfOk written (λ told. Tells after (coded told))
-tells_as (Ok told) before after text refusal none tells added is =
+pub tells_as : {A F : Type 0} (written : Result A F) (before after text : List ℕ)
+    (told refusal : Option (ℕ × List ℕ)) → before ≡ [] → Tells text refusal
+    → OnOk written (after ≡ before ++ text) → OnOk written (told ≡ refusal)
+    → OnOk written (Tells after told)
+tells_as (Ok done) before after text told refusal none tells added is =
     subst (λ r. Tells after r) (sym is)
     (subst (λ t. Tells t refusal) (sym (added ∙ ap (λ b. b ++ text) none)) tells)
-tells_as (Err fault) before after text refusal none tells added is = tt
+tells_as (Err fault) before after text told refusal none tells added is = tt

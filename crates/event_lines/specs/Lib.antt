@@ -1,5 +1,6 @@
 pub mod Line
 pub mod Members
+pub mod PolicyForm
 pub mod AcceptedLines
 pub mod Text
 pub mod Refusals

@@ -1,7 +1,7 @@
 -- The value of a line: it is a JSON object with the member `do`, and with others that depend on its
 -- word. Addresses are texts; payloads and keys are hexadecimal; numbers are whole numbers up to the
 -- largest of their type. Other members are ignored.
-use Rattle.std.specs.Prelude.{ℕ, if◌then◌else◌, codes, List, [], ◌∷◌, Option, Some, None, option_map}
+use Rattle.std.specs.Prelude.{ℕ, ◌&&◌, if◌then◌else◌, codes, Bool, true, false, List, [], ◌∷◌, Option, Some, None, is_some, option_map}
 use Rattle.std.specs.Option.{is_none}
 use Rattle.std.specs.Str.{bytes_eq}
 use Rattle.serde_json.specs.Data.{Data}
@@ -13,6 +13,9 @@ use Rattle.json_fields.specs.Fields.{document_in, text_at, whole_at, list_at, it
 use Rattle.isd_as.specs.Reading.{address_at}
 use Rattle.policy_expr.specs.Options.{OptionTexts, options_at}
 use Rattle.network_core.specs.Event.{EventValue, Tick, Originate, Extend, Terminate, Sweep, Ask, ByAnswer, BackOf, Send, Turn, Lose, Alter, CutLink, MendLink, RotateKey}
+use Rattle.event_lines.specs.declared.members.MemberForm.{MemberForm}
+use Rattle.event_lines.specs.declared.members.MemberForm.TheVariants.{Address, Bytes, Limit, Whole}
+use Rattle.event_lines.specs.Members.{MemberValue, byte_form, has_members, long_form, named, short_form}
 
 -- the value of a line: an event that happens, or a packet whose place is shown
 pub data LineValue : Type 0 where
@@ -89,107 +92,167 @@ one_option d = do
 abbrev pub options_in : Data → Option (List OptionTexts)
 options_in d = if is_none (get (codes "options") d) then one_option d else listed_options d
 
--- ---- events, by their word
+-- ---- members, by their forms
 
-unfoldable pub ask_in : Data → Option EventValue
-ask_in d = do
-  texts ← options_in d
-  src ← ia_in (codes "src") d
-  dst ← ia_in (codes "dst") d
-  limit ← long_at (codes "limit") d
-  Some (Ask src dst (options_at texts) limit)
+-- what is read of a member of each form that lines have: bytes, or a number, as an address is one
+abbrev pub Read : MemberForm → Type 0
+Read Bytes = List ℕ
+Read form = ℕ
 
--- the events of packets and links that have neither bytes nor texts
-unfoldable pub traffic_event : List ℕ → Data → Option EventValue
-traffic_event word d =
-    if bytes_eq word (codes "turn") then (do
-      packet ← long_at (codes "packet") d
-      Some (Turn packet))
-    else if bytes_eq word (codes "lose") then (do
-      packet ← long_at (codes "packet") d
-      Some (Lose packet))
-    else if bytes_eq word (codes "alter") then (do
-      packet ← long_at (codes "packet") d
-      at ← long_at (codes "at") d
-      change ← byte_at (codes "xor") d
-      Some (Alter packet at change))
-    else if bytes_eq word (codes "cut") then (do
-      ia ← ia_in (codes "ia") d
-      interface ← short_at (codes "if") d
-      Some (CutLink ia interface))
-    else if bytes_eq word (codes "mend") then (do
-      ia ← ia_in (codes "ia") d
-      interface ← short_at (codes "if") d
-      Some (MendLink ia interface))
-    else None
+-- the value of a member that has this form; lines have none of any other form
+abbrev pub value_at : (form : MemberForm) → List ℕ → Data → Option (Read form)
+value_at Address name d = ia_in name d
+value_at (Whole low high) name d = whole_at low high name d
+value_at Limit name d = long_at name d
+value_at Bytes name d = bytes_at name d
+value_at form name d = None
 
--- the events that have neither bytes nor texts
-unfoldable pub plain_event : List ℕ → Data → Option EventValue
-plain_event word d =
-    if bytes_eq word (codes "tick") then (do
-      to ← long_at (codes "now") d
-      Some (Tick to))
-    else if bytes_eq word (codes "originate") then (do
-      ia ← ia_in (codes "ia") d
-      egress ← short_at (codes "egress") d
-      beta0 ← short_at (codes "beta0") d
-      Some (Originate ia egress beta0))
-    else if bytes_eq word (codes "extend") then (do
-      beacon ← long_at (codes "beacon") d
-      ia ← ia_in (codes "ia") d
-      egress ← short_at (codes "egress") d
-      Some (Extend beacon ia egress))
-    else if bytes_eq word (codes "terminate") then (do
-      beacon ← long_at (codes "beacon") d
-      ia ← ia_in (codes "ia") d
-      Some (Terminate beacon ia))
-    else if bytes_eq word (codes "sweep") then Some Sweep
-    else traffic_event word d
+-- what makes a value of these members, which are read one after another
+abbrev pub OfMembers : List MemberValue → Type 0 → Type 0
+OfMembers [] A = A
+OfMembers (member ∷ members) A = Read member.form → OfMembers members A
 
--- a packet that is sent on a path of an answer
-unfoldable pub send_in : Data → Option EventValue
-send_in d = do
-  payload ← bytes_at (codes "payload") d
-  ask ← long_at (codes "ask") d
-  path ← long_at (codes "path") d
-  Some (Send (ByAnswer ask path) payload)
+-- the value that is made of an object's members
+abbrev pub made_of : {A : Type 0} → (members : List MemberValue) → OfMembers members A → Data
+    → Option A
+made_of [] made d = Some made
+made_of (member ∷ members) make d = do
+  value ← value_at member.form member.name d
+  made_of members (make value) d
 
--- a packet that is sent back
-unfoldable pub back_in : Data → Option EventValue
-back_in d = do
-  payload ← bytes_at (codes "payload") d
-  packet ← long_at (codes "packet") d
-  Some (Send (BackOf packet) payload)
+-- what makes a value, if need be of a policy's options first
+abbrev pub OfPolicy : (policy : Bool) → Type 0 → Type 0
+OfPolicy false A = A
+OfPolicy true A = List OptionTexts → A
 
--- a key that is taken into use
-unfoldable pub rotate_in : Data → Option EventValue
-rotate_in d = do
-  key ← bytes_at (codes "key") d
-  ia ← ia_in (codes "ia") d
-  Some (RotateKey ia key)
+abbrev pub made_of_policy : {A : Type 0} → (policy : Bool) → OfPolicy policy A → Data → Option A
+made_of_policy false made d = Some made
+made_of_policy true make d = do
+  options ← options_in d
+  Some (make options)
 
--- all events
-abbrev pub event_in : List ℕ → Data → Option EventValue
-event_in word d =
-    if bytes_eq word (codes "ask") then ask_in d
-    else if bytes_eq word (codes "send") then send_in d
-    else if bytes_eq word (codes "back") then back_in d
-    else if bytes_eq word (codes "rotate") then rotate_in d
-    else plain_event word d
+-- ---- the table of lines
+
+-- the lines with a word: whether they have a policy; their members, in the order in which they are
+-- looked for; and the value that is made of these
+pub record LineForm : Type 0 where
+  pub word : List ℕ
+  pub policy : Bool
+  pub members : List MemberValue
+  pub value : OfPolicy policy (OfMembers members LineValue)
+
+-- lines without a policy
+abbrev pub line : (word : List ℕ) (members : List MemberValue) → OfMembers members LineValue
+    → LineForm
+line word members value =
+    record { word = word; policy = false; members = members; value = value }
+
+abbrev pub address : List ℕ → MemberValue
+address name = named name Address
+
+abbrev pub bytes : List ℕ → MemberValue
+bytes name = named name Bytes
+
+-- numbers of 32 bits, of 16 bits, and of 8 bits
+abbrev pub long : List ℕ → MemberValue
+long name = named name long_form
+
+abbrev pub short : List ℕ → MemberValue
+short name = named name short_form
+
+abbrev pub byte : List ℕ → MemberValue
+byte name = named name byte_form
+
+abbrev pub ask_line : LineForm
+ask_line =
+    record {
+      word = codes "ask";
+      policy = true;
+      members = address (codes "src") ∷ address (codes "dst") ∷ named (codes "limit") Limit ∷ [];
+      value = λ options src dst limit. Happens (Ask src dst (options_at options) limit);
+    }
+
+abbrev pub send_line : LineForm
+send_line =
+    line (codes "send") (bytes (codes "payload") ∷ long (codes "ask") ∷ long (codes "path") ∷ [])
+    (λ payload ask path. Happens (Send (ByAnswer ask path) payload))
+
+abbrev pub back_line : LineForm
+back_line =
+    line (codes "back") (bytes (codes "payload") ∷ long (codes "packet") ∷ [])
+    (λ payload packet. Happens (Send (BackOf packet) payload))
+
+abbrev pub rotate_line : LineForm
+rotate_line =
+    line (codes "rotate") (bytes (codes "key") ∷ address (codes "ia") ∷ [])
+    (λ key ia. Happens (RotateKey ia key))
+
+-- the lines about packets and links that have neither bytes nor texts
+unfoldable pub traffic_lines : List LineForm
+traffic_lines =
+    line (codes "turn") (long (codes "packet") ∷ []) (λ packet. Happens (Turn packet))
+    ∷ line (codes "lose") (long (codes "packet") ∷ []) (λ packet. Happens (Lose packet))
+    ∷ line (codes "alter") (long (codes "packet") ∷ long (codes "at") ∷ byte (codes "xor") ∷ [])
+    (λ packet at xor. Happens (Alter packet at xor))
+    ∷ line (codes "cut") (address (codes "ia") ∷ short (codes "if") ∷ [])
+    (λ ia interface. Happens (CutLink ia interface))
+    ∷ line (codes "mend") (address (codes "ia") ∷ short (codes "if") ∷ [])
+    (λ ia interface. Happens (MendLink ia interface))
+    ∷ line (codes "show") (long (codes "packet") ∷ []) (λ packet. Shows packet)
+    ∷ []
+
+-- all lines that have neither bytes nor texts
+unfoldable pub plain_lines : List LineForm
+plain_lines =
+    line (codes "tick") (long (codes "now") ∷ []) (λ now. Happens (Tick now))
+    ∷ line (codes "originate")
+    (address (codes "ia") ∷ short (codes "egress") ∷ short (codes "beta0") ∷ [])
+    (λ ia egress beta0. Happens (Originate ia egress beta0))
+    ∷ line (codes "extend")
+    (long (codes "beacon") ∷ address (codes "ia") ∷ short (codes "egress") ∷ [])
+    (λ beacon ia egress. Happens (Extend beacon ia egress))
+    ∷ line (codes "terminate") (long (codes "beacon") ∷ address (codes "ia") ∷ [])
+    (λ beacon ia. Happens (Terminate beacon ia))
+    ∷ line (codes "sweep") [] (Happens Sweep)
+    ∷ traffic_lines
+
+-- all lines
+abbrev pub lines : List LineForm
+lines = ask_line ∷ send_line ∷ back_line ∷ rotate_line ∷ plain_lines
+
+-- the words of lines, in the order in which they are told
+abbrev pub line_words : List (List ℕ)
+line_words = codes "tick" ∷ codes "originate" ∷ codes "extend" ∷ codes "terminate"
+    ∷ codes "sweep" ∷ codes "ask" ∷ codes "send" ∷ codes "back" ∷ codes "turn" ∷ codes "lose"
+    ∷ codes "alter" ∷ codes "cut" ∷ codes "mend" ∷ codes "rotate" ∷ codes "show" ∷ []
+
+-- the first of these forms that has this word
+abbrev pub form_with : (word : List ℕ) → List LineForm → Option LineForm
+form_with word [] = None
+form_with word (form ∷ forms) =
+    if bytes_eq word form.word then Some form else form_with word forms
+
+-- the members of the lines with a word, without the policy; none if no line has the word
+unfoldable pub members_of : (word : List ℕ) → Option (List MemberValue)
+members_of word = option_map (λ form. form.members) (form_with word lines)
 
 -- ---- lines
 
--- a line that shows a packet
-unfoldable pub show_in : Data → Option LineValue
-show_in d = do
-  packet ← long_at (codes "packet") d
-  Some (Shows packet)
+-- the value of an object by this form
+abbrev pub read_by : LineForm → Data → Option LineValue
+read_by form d = do
+  value ← made_of_policy form.policy form.value d
+  made_of form.members value d
+
+-- the value of an object by the first of these forms that has its word
+abbrev pub read_among : List LineForm → (word : List ℕ) → Data → Option LineValue
+read_among forms word d = do
+  form ← form_with word forms
+  read_by form d
 
 -- the value of an object with this word
-unfoldable pub line_with_word : List ℕ → Data → Option LineValue
-line_with_word word d =
-    if bytes_eq word (codes "show") then show_in d
-    else option_map Happens (event_in word d)
+unfoldable pub line_with_word : (word : List ℕ) → Data → Option LineValue
+line_with_word word d = read_among lines word d
 
 -- the value of an object
 unfoldable pub said_by : Data → Option LineValue
@@ -202,3 +265,16 @@ unfoldable pub line_in : List ℕ → Option LineValue
 line_in bytes = do
   d ← document_in bytes
   said_by d
+
+-- whether an object has the members of a form, if there is one, and a policy if it needs one
+abbrev pub has_policy : (policy : Bool) → Data → Bool
+has_policy false d = true
+has_policy true d = is_some (options_in d)
+
+abbrev pub fits : Option LineForm → Data → Bool
+fits None d = false
+fits (Some form) d = has_policy form.policy d && has_members form.members d
+
+-- whether an object has the members of the lines with a word, and with `ask` a policy
+abbrev pub is_formed : (word : List ℕ) → Data → Bool
+is_formed word d = fits (form_with word lines) d

@@ -1,16 +1,17 @@
--- The table of lines: for each word the members that its lines have, each with the form of its
--- value; and the members of a topology's objects.
-use Rattle.std.specs.Prelude.{ℕ, ◌&&◌, ◌||◌, nat_le, not, Bool, true, false, if◌then◌else◌, codes, List, [], ◌∷◌, length, Option, Some, None, is_some, is_ok, option_and_then, Result, Ok, Err}
+-- Members of JSON objects, each with the form of its value; and those of a policy, of a policy
+-- option, and of a topology's objects.
+use Rattle.std.specs.Prelude.{ℕ, suc, ◌&&◌, ◌||◌, nat_le, not, Bool, true, false, if◌then◌else◌, codes, List, [], ◌∷◌, length, Option, Some, None, is_some, is_ok, option_and_then, Result, Ok, Err}
+use Rattle.std.specs.Option.{is_none}
 use Rattle.std.specs.Str.{bytes_eq}
-use Rattle.serde_json.specs.Data.{Data}
+use Rattle.serde_json.specs.Data.{Data, no_items, item}
+use Rattle.serde_json.specs.Data as values
 use Rattle.serde_json.specs.Find.{get, as_array, as_bool, as_number, as_object, as_str, as_u64}
 use Rattle.hex.specs.Hex.{decode_of}
 use Rattle.isd_as.specs.Reading.{address_at}
 use Rattle.scion_topology.specs.Network.{is_wildcard}
 use Rattle.event_lines.specs.declared.members.Member.{Member}
 use Rattle.event_lines.specs.declared.members.MemberForm.{MemberForm}
-use Rattle.event_lines.specs.declared.members.MemberForm.TheVariants.{Address, AsAddress, Items, Object, Truth, Whole, Limit, Key, Bytes, LinkKind, Text}
-use Rattle.event_lines.specs.Line.{options_in}
+use Rattle.event_lines.specs.declared.members.MemberForm.TheVariants.{Address, AsAddress, Items, Object, Truth, Whole, Limit, Key, Bytes, LinkKind, Text, Texts, Absent}
 
 -- ---- forms
 
@@ -29,7 +30,26 @@ abbrev pub is_plain : {F : Type 0} → Result ℕ F → Bool
 is_plain (Ok ia) = not (is_wildcard ia)
 is_plain (Err fault) = false
 
--- whether a value has a form
+-- the first of two, if there is one
+abbrev pub first_of : {A : Type 0} → Option A → Option A → Option A
+first_of (Some x) later = Some x
+first_of None later = later
+
+-- what the first of the items gives that gives anything, by its number and its value
+abbrev pub first_given : {A : Type 0} → (ℕ → Data → Option A) → values.Items → Option A
+first_given give no_items = None
+first_given give (item d ds) = first_of (give 0 d) (first_given (λ number. give (suc number)) ds)
+
+-- the number of an item that is no text
+abbrev pub no_text : ℕ → Data → Option ℕ
+no_text number d = if is_some (as_str d) then None else Some number
+
+-- there is a list, and its items are texts
+abbrev pub are_texts : Option values.Items → Bool
+are_texts None = false
+are_texts (Some items) = is_none (first_given no_text items)
+
+-- whether a value has a form; none is of the form of a member that is to be absent
 abbrev pub has_form : MemberForm → Data → Bool
 has_form Address d = text_passes (λ text. is_ok (address_at text)) (as_str d)
 has_form AsAddress d = text_passes (λ text. is_plain (address_at text)) (as_str d)
@@ -44,6 +64,8 @@ has_form Bytes d = text_passes (λ text. is_ok (decode_of text)) (as_str d)
 has_form LinkKind d =
     text_passes (λ text. bytes_eq text (codes "core") || bytes_eq text (codes "child")) (as_str d)
 has_form Text d = is_some (as_str d)
+has_form Texts d = are_texts (as_array d)
+has_form Absent d = false
 
 -- ---- members
 
@@ -72,7 +94,7 @@ abbrev pub has_members : List MemberValue → Data → Bool
 has_members [] d = true
 has_members (member ∷ members) d = has_member member d && has_members members d
 
--- ---- the table
+-- ---- forms of numbers, and policies
 
 -- a number of 32 bits, of 16 bits, and of 8 bits
 abbrev pub long_form : MemberForm
@@ -84,107 +106,15 @@ short_form = Whole 0 65535
 abbrev pub byte_form : MemberForm
 byte_form = Whole 0 255
 
--- the members of the lines with each word, in the order in which they are looked for
-abbrev pub tick_members : List MemberValue
-tick_members = named (codes "now") long_form ∷ []
-
-abbrev pub originate_members : List MemberValue
-originate_members = named (codes "ia") Address ∷ named (codes "egress") short_form
-    ∷ named (codes "beta0") short_form ∷ []
-
-abbrev pub extend_members : List MemberValue
-extend_members = named (codes "beacon") long_form ∷ named (codes "ia") Address
-    ∷ named (codes "egress") short_form ∷ []
-
-abbrev pub terminate_members : List MemberValue
-terminate_members = named (codes "beacon") long_form ∷ named (codes "ia") Address ∷ []
-
--- without the policy, of which no member is needed
-abbrev pub ask_members : List MemberValue
-ask_members = named (codes "src") Address ∷ named (codes "dst") Address
-    ∷ named (codes "limit") Limit ∷ []
-
-abbrev pub send_members : List MemberValue
-send_members = named (codes "payload") Bytes ∷ named (codes "ask") long_form
-    ∷ named (codes "path") long_form ∷ []
-
-abbrev pub back_members : List MemberValue
-back_members = named (codes "payload") Bytes ∷ named (codes "packet") long_form ∷ []
-
--- of `turn`, `lose` and `show`
-abbrev pub packet_members : List MemberValue
-packet_members = named (codes "packet") long_form ∷ []
-
-abbrev pub alter_members : List MemberValue
-alter_members = named (codes "packet") long_form ∷ named (codes "at") long_form
-    ∷ named (codes "xor") byte_form ∷ []
-
 -- the word of a request and the members with its policy, which may be absent
 abbrev pub policy_members : List MemberValue
-policy_members = named (codes "do") Text ∷ named (codes "acl") Items
+policy_members = named (codes "do") Text ∷ named (codes "acl") Texts
     ∷ named (codes "sequence") Text ∷ named (codes "options") Items ∷ []
 
 -- the members of a policy option, of which all but the weight may be absent
 abbrev pub option_members : List MemberValue
-option_members = named (codes "weight") long_form ∷ named (codes "acl") Items
+option_members = named (codes "weight") long_form ∷ named (codes "acl") Texts
     ∷ named (codes "sequence") Text ∷ []
-
--- of `cut` and `mend`
-abbrev pub interface_members : List MemberValue
-interface_members = named (codes "ia") Address ∷ named (codes "if") short_form ∷ []
-
-abbrev pub rotate_members : List MemberValue
-rotate_members = named (codes "key") Bytes ∷ named (codes "ia") Address ∷ []
-
--- the members of the lines with a word, in the layers in which such a line is read: those of
--- packets and links, all but those with a text or a policy, all events, and with `show` all lines;
--- none if no line has the word
-abbrev pub traffic_members : List ℕ → Option (List MemberValue)
-traffic_members word =
-    if bytes_eq word (codes "turn") then Some packet_members
-    else if bytes_eq word (codes "lose") then Some packet_members
-    else if bytes_eq word (codes "alter") then Some alter_members
-    else if bytes_eq word (codes "cut") then Some interface_members
-    else if bytes_eq word (codes "mend") then Some interface_members
-    else None
-
-abbrev pub plain_members : List ℕ → Option (List MemberValue)
-plain_members word =
-    if bytes_eq word (codes "tick") then Some tick_members
-    else if bytes_eq word (codes "originate") then Some originate_members
-    else if bytes_eq word (codes "extend") then Some extend_members
-    else if bytes_eq word (codes "terminate") then Some terminate_members
-    else if bytes_eq word (codes "sweep") then Some []
-    else traffic_members word
-
-abbrev pub event_members : List ℕ → Option (List MemberValue)
-event_members word =
-    if bytes_eq word (codes "ask") then Some ask_members
-    else if bytes_eq word (codes "send") then Some send_members
-    else if bytes_eq word (codes "back") then Some back_members
-    else if bytes_eq word (codes "rotate") then Some rotate_members
-    else plain_members word
-
-unfoldable pub members_of : List ℕ → Option (List MemberValue)
-members_of word =
-    if bytes_eq word (codes "show") then Some packet_members else event_members word
-
--- the words of lines
-abbrev pub line_words : List (List ℕ)
-line_words = codes "tick" ∷ codes "originate" ∷ codes "extend" ∷ codes "terminate"
-    ∷ codes "sweep" ∷ codes "ask" ∷ codes "send" ∷ codes "back" ∷ codes "turn" ∷ codes "lose"
-    ∷ codes "alter" ∷ codes "cut" ∷ codes "mend" ∷ codes "rotate" ∷ codes "show" ∷ []
-
--- there are members, and an object has them; and a policy besides if one is needed
-abbrev pub has_these : (policy : Bool) → Option (List MemberValue) → Data → Bool
-has_these policy None d = false
-has_these policy (Some members) d = policy && has_members members d
-
--- whether an object has the members of the lines with a word, and with `ask` a policy
-abbrev pub is_formed : List ℕ → Data → Bool
-is_formed word d =
-    has_these (if bytes_eq word (codes "ask") then is_some (options_in d) else true)
-    (members_of word) d
 
 -- the first of these members that an object does not have in its form
 abbrev pub first_misfit : List MemberValue → Data → Option MemberValue

@@ -62,11 +62,11 @@ abbrev pub stage_behind : LineRun → Stage
 stage_behind run = stage_of run.net
 
 abbrev pub reply_behind : LineRun → List ℕ
-reply_behind run = string_bytes run.reply
+reply_behind run = string_bytes run.reply.text
 
 -- the refusal that this reply tells
 abbrev pub refusal_behind : LineRun → Option (ℕ × List ℕ)
-refusal_behind run = coded run.refusal
+refusal_behind run = coded run.reply.refusal
 
 -- the run replies to this line, and is in this state after it; or the topology was refused, which
 -- is its reply; or memory ran out

@@ -1,23 +1,22 @@
 //! Replies to lines, and the events that happen.
 //!
-//! Each reply is written into a text that is empty before it, and the refusal that it tells is
-//! returned. Where memory runs out, that text may have a beginning of the reply.
-#![tactic(auto, unfolding(crate::specs::Line::ask_in, crate::specs::Line::back_in, crate::specs::Line::line_in, crate::specs::Line::line_with_word, crate::specs::Line::rotate_in, crate::specs::Line::said_by, crate::specs::Line::send_in,))]
+//! Each reply is written into one that is blank before it. Where memory runs out, that has a beginning
+//! of the text.
+#![tactic(auto, unfolding(crate::specs::Line::line_in, crate::specs::Line::line_with_word, crate::specs::Line::said_by))]
 
-ghost use Rattle.std.specs.Prelude.{◌≡◌, [], IfOk, None, OnOk, Some, option_map};
+ghost use Rattle.std.specs.Prelude.{None, OnOk, Some};
 ghost use Rattle.std.specs.String.{string_bytes};
 ghost use Rattle.json_fields.specs.Documents.{node_data};
 ghost use Rattle.network_core.specs.Event as events;
 ghost use Rattle.event_lines.specs.AcceptedLines.{accepted_as};
-ghost use Rattle.event_lines.specs.Line.{Happens, Shows, ask_in, back_in, line_in, line_with_word, plain_event, rotate_in, said_by, send_in, show_in};
-ghost use Rattle.event_lines.specs.inner.Seen.{line_value};
-ghost use Rattle.event_lines.specs.Refusals.{Tells, coded};
+ghost use Rattle.event_lines.specs.Line.{Happens, Shows, ask_line, back_line, line_in, plain_lines, read_among, read_by, rotate_line, said_by, send_line};
+ghost use Rattle.event_lines.specs.inner.Seen.{IsBlank, TellsRefusal, line_value};
 ghost use Rattle.event_lines.specs.Replies.{Replies};
 
 use crate::accepted::AcceptedLines;
 use crate::fields::{read_bytes, read_options};
-use crate::line::{Line, ask, back, plain, rotate, send, show};
-use crate::text::{Coded, push_bad_line, push_outcome, push_packet, push_reply};
+use crate::line::{Line, ask, back, plain, rotate, send};
+use crate::text::{LineReply, push_bad_line, push_outcome, push_packet, push_reply};
 use forwarding::TurnReply;
 use json_fields::{Document, JsonRoom, Node};
 use network_core::{Event, Net, Reply};
@@ -30,36 +29,35 @@ fn happen(
     alloc: Global,
     net: &mut Net,
     event: &Event<'_>,
-    reply: &mut String,
-) -> Result<Option<Coded>, AllocError>
-    requires { string_bytes reply.old ≡ [] }
+    reply: &mut LineReply,
+) -> Result<(), AllocError>
+    requires { IsBlank reply.old }
     ensures told { OnOk result (Replies net.old (Some (Happens (events.event_value event.now)))
-        (string_bytes reply.new) net.new) }
-    ensures refusal { IfOk result (λ refusal. Tells (string_bytes reply.new) (coded refusal)) }
+        (string_bytes reply.new.text) net.new) }
+    ensures refusal { OnOk result (TellsRefusal reply.new) }
 {
     let answered = net.step(alloc, event)?;
     if let Reply::Turned(TurnReply::Went(outcome)) = answered {
-        push_outcome(reply, outcome)?;
-        return Ok(None);
+        return push_outcome(&mut reply.text, outcome);
     }
     push_reply(reply, net, answered)
 }
 
 /// Writes the reply to a bad line.
-fn answer_bad_line(net: &Net, reply: &mut String) -> Result<Option<Coded>, AllocError>
-    requires { string_bytes reply.old ≡ [] }
-    ensures told { OnOk result (Replies net.now None (string_bytes reply.new) net.now) }
-    ensures refusal { IfOk result (λ refusal. Tells (string_bytes reply.new) (coded refusal)) }
+fn answer_bad_line(net: &Net, reply: &mut LineReply) -> Result<(), AllocError>
+    requires { IsBlank reply.old }
+    ensures told { OnOk result (Replies net.now None (string_bytes reply.new.text) net.now) }
+    ensures refusal { OnOk result (TellsRefusal reply.new) }
 {
     push_bad_line(reply)
 }
 
 /// Writes the reply to a line that shows a packet.
-fn answer_shown(net: &Net, packet: u32, reply: &mut String) -> Result<Option<Coded>, AllocError>
-    requires { string_bytes reply.old ≡ [] }
-    ensures told { OnOk result (Replies net.now (Some (Shows packet)) (string_bytes reply.new)
+fn answer_shown(net: &Net, packet: u32, reply: &mut LineReply) -> Result<(), AllocError>
+    requires { IsBlank reply.old }
+    ensures told { OnOk result (Replies net.now (Some (Shows packet)) (string_bytes reply.new.text)
         net.now) }
-    ensures refusal { IfOk result (λ refusal. Tells (string_bytes reply.new) (coded refusal)) }
+    ensures refusal { OnOk result (TellsRefusal reply.new) }
 {
     push_packet(reply, net.packet(packet as usize))
 }
@@ -69,12 +67,12 @@ fn answer(
     alloc: Global,
     net: &mut Net,
     line: &Line<'_>,
-    reply: &mut String,
-) -> Result<Option<Coded>, AllocError>
-    requires { string_bytes reply.old ≡ [] }
+    reply: &mut LineReply,
+) -> Result<(), AllocError>
+    requires { IsBlank reply.old }
     ensures told { OnOk result (Replies net.old (Some (line_value line.now))
-        (string_bytes reply.new) net.new) }
-    ensures refusal { IfOk result (λ refusal. Tells (string_bytes reply.new) (coded refusal)) }
+        (string_bytes reply.new.text) net.new) }
+    ensures refusal { OnOk result (TellsRefusal reply.new) }
 {
     match line {
         Line::Happens(event) => happen(alloc, net, event, reply),
@@ -88,12 +86,12 @@ fn answer_accepted(
     accepted: AcceptedLines,
     net: &mut Net,
     line: &Line<'_>,
-    reply: &mut String,
-) -> Result<Option<Coded>, AllocError>
-    requires { string_bytes reply.old ≡ [] }
+    reply: &mut LineReply,
+) -> Result<(), AllocError>
+    requires { IsBlank reply.old }
     ensures told { OnOk result (Replies net.old (accepted_as accepted (Some (line_value line.now)))
-        (string_bytes reply.new) net.new) }
-    ensures refusal { IfOk result (λ refusal. Tells (string_bytes reply.new) (coded refusal)) }
+        (string_bytes reply.new.text) net.new) }
+    ensures refusal { OnOk result (TellsRefusal reply.new) }
 {
     if accepted.accepts(line) {
         answer(alloc, net, line, reply)
@@ -102,43 +100,23 @@ fn answer_accepted(
     }
 }
 
-/// Writes the reply to a line that shows a packet.
-fn answer_show(
-    alloc: Global,
-    accepted: AcceptedLines,
-    net: &mut Net,
-    object: &Node<'_, '_>,
-    reply: &mut String,
-) -> Result<Option<Coded>, AllocError>
-    requires { string_bytes reply.old ≡ [] }
-    ensures told { OnOk result (Replies net.old
-        (accepted_as accepted (show_in (node_data object.now)))
-        (string_bytes reply.new) net.new) }
-    ensures refusal { IfOk result (λ refusal. Tells (string_bytes reply.new) (coded refusal)) }
-{
-    match show(object) {
-        Some(line) => answer_accepted(alloc, accepted, net, &line, reply),
-        None => answer_bad_line(net, reply),
-    }
-}
-
-/// Writes the reply to a line of a word whose event carries neither bytes nor texts.
+/// Writes the reply to a line of a word whose lines have neither bytes nor texts.
 fn answer_plain(
     alloc: Global,
     accepted: AcceptedLines,
     net: &mut Net,
     word: &str,
     object: &Node<'_, '_>,
-    reply: &mut String,
-) -> Result<Option<Coded>, AllocError>
-    requires { string_bytes reply.old ≡ [] }
+    reply: &mut LineReply,
+) -> Result<(), AllocError>
+    requires { IsBlank reply.old }
     ensures told { OnOk result (Replies net.old
-        (accepted_as accepted (option_map Happens (plain_event word.now (node_data object.now))))
-        (string_bytes reply.new) net.new) }
-    ensures refusal { IfOk result (λ refusal. Tells (string_bytes reply.new) (coded refusal)) }
+        (accepted_as accepted (read_among plain_lines word.now (node_data object.now)))
+        (string_bytes reply.new.text) net.new) }
+    ensures refusal { OnOk result (TellsRefusal reply.new) }
 {
     match plain(word, object) {
-        Some(event) => answer_accepted(alloc, accepted, net, &Line::Happens(event), reply),
+        Some(line) => answer_accepted(alloc, accepted, net, &line, reply),
         None => answer_bad_line(net, reply),
     }
 }
@@ -149,20 +127,20 @@ fn answer_ask(
     accepted: AcceptedLines,
     net: &mut Net,
     object: &Node<'_, '_>,
-    reply: &mut String,
-) -> Result<Option<Coded>, AllocError>
-    requires { string_bytes reply.old ≡ [] }
+    reply: &mut LineReply,
+) -> Result<(), AllocError>
+    requires { IsBlank reply.old }
     ensures told { OnOk result (Replies net.old
-        (accepted_as accepted (option_map Happens (ask_in (node_data object.now))))
-        (string_bytes reply.new) net.new) }
-    ensures refusal { IfOk result (λ refusal. Tells (string_bytes reply.new) (coded refusal)) }
+        (accepted_as accepted (read_by ask_line (node_data object.now)))
+        (string_bytes reply.new.text) net.new) }
+    ensures refusal { OnOk result (TellsRefusal reply.new) }
 {
     let Some(options) = read_options(alloc, object)? else {
         return answer_bad_line(net, reply);
     };
     let lent = OwnedOptionText::lend_all(alloc, &options)?;
     match ask(object, &lent) {
-        Some(event) => answer_accepted(alloc, accepted, net, &Line::Happens(event), reply),
+        Some(line) => answer_accepted(alloc, accepted, net, &line, reply),
         None => answer_bad_line(net, reply),
     }
 }
@@ -173,19 +151,19 @@ fn answer_send(
     accepted: AcceptedLines,
     net: &mut Net,
     object: &Node<'_, '_>,
-    reply: &mut String,
-) -> Result<Option<Coded>, AllocError>
-    requires { string_bytes reply.old ≡ [] }
+    reply: &mut LineReply,
+) -> Result<(), AllocError>
+    requires { IsBlank reply.old }
     ensures told { OnOk result (Replies net.old
-        (accepted_as accepted (option_map Happens (send_in (node_data object.now))))
-        (string_bytes reply.new) net.new) }
-    ensures refusal { IfOk result (λ refusal. Tells (string_bytes reply.new) (coded refusal)) }
+        (accepted_as accepted (read_by send_line (node_data object.now)))
+        (string_bytes reply.new.text) net.new) }
+    ensures refusal { OnOk result (TellsRefusal reply.new) }
 {
     let Some(payload) = read_bytes(alloc, object, "payload")? else {
         return answer_bad_line(net, reply);
     };
     match send(object, &payload) {
-        Some(event) => answer_accepted(alloc, accepted, net, &Line::Happens(event), reply),
+        Some(line) => answer_accepted(alloc, accepted, net, &line, reply),
         None => answer_bad_line(net, reply),
     }
 }
@@ -196,19 +174,19 @@ fn answer_back(
     accepted: AcceptedLines,
     net: &mut Net,
     object: &Node<'_, '_>,
-    reply: &mut String,
-) -> Result<Option<Coded>, AllocError>
-    requires { string_bytes reply.old ≡ [] }
+    reply: &mut LineReply,
+) -> Result<(), AllocError>
+    requires { IsBlank reply.old }
     ensures told { OnOk result (Replies net.old
-        (accepted_as accepted (option_map Happens (back_in (node_data object.now))))
-        (string_bytes reply.new) net.new) }
-    ensures refusal { IfOk result (λ refusal. Tells (string_bytes reply.new) (coded refusal)) }
+        (accepted_as accepted (read_by back_line (node_data object.now)))
+        (string_bytes reply.new.text) net.new) }
+    ensures refusal { OnOk result (TellsRefusal reply.new) }
 {
     let Some(payload) = read_bytes(alloc, object, "payload")? else {
         return answer_bad_line(net, reply);
     };
     match back(object, &payload) {
-        Some(event) => answer_accepted(alloc, accepted, net, &Line::Happens(event), reply),
+        Some(line) => answer_accepted(alloc, accepted, net, &line, reply),
         None => answer_bad_line(net, reply),
     }
 }
@@ -219,19 +197,19 @@ fn answer_rotate(
     accepted: AcceptedLines,
     net: &mut Net,
     object: &Node<'_, '_>,
-    reply: &mut String,
-) -> Result<Option<Coded>, AllocError>
-    requires { string_bytes reply.old ≡ [] }
+    reply: &mut LineReply,
+) -> Result<(), AllocError>
+    requires { IsBlank reply.old }
     ensures told { OnOk result (Replies net.old
-        (accepted_as accepted (option_map Happens (rotate_in (node_data object.now))))
-        (string_bytes reply.new) net.new) }
-    ensures refusal { IfOk result (λ refusal. Tells (string_bytes reply.new) (coded refusal)) }
+        (accepted_as accepted (read_by rotate_line (node_data object.now)))
+        (string_bytes reply.new.text) net.new) }
+    ensures refusal { OnOk result (TellsRefusal reply.new) }
 {
     let Some(key) = read_bytes(alloc, object, "key")? else {
         return answer_bad_line(net, reply);
     };
     match rotate(object, &key) {
-        Some(event) => answer_accepted(alloc, accepted, net, &Line::Happens(event), reply),
+        Some(line) => answer_accepted(alloc, accepted, net, &line, reply),
         None => answer_bad_line(net, reply),
     }
 }
@@ -242,18 +220,17 @@ fn answer_object(
     accepted: AcceptedLines,
     net: &mut Net,
     object: &Node<'_, '_>,
-    reply: &mut String,
-) -> Result<Option<Coded>, AllocError>
-    requires { string_bytes reply.old ≡ [] }
+    reply: &mut LineReply,
+) -> Result<(), AllocError>
+    requires { IsBlank reply.old }
     ensures told { OnOk result (Replies net.old (accepted_as accepted (said_by (node_data object.now)))
-        (string_bytes reply.new) net.new) }
-    ensures refusal { IfOk result (λ refusal. Tells (string_bytes reply.new) (coded refusal)) }
+        (string_bytes reply.new.text) net.new) }
+    ensures refusal { OnOk result (TellsRefusal reply.new) }
 {
     let Some(word) = object.text("do") else {
         return answer_bad_line(net, reply);
     };
     match word {
-        "show" => answer_show(alloc, accepted, net, object, reply),
         "ask" => answer_ask(alloc, accepted, net, object, reply),
         "send" => answer_send(alloc, accepted, net, object, reply),
         "back" => answer_back(alloc, accepted, net, object, reply),
@@ -274,12 +251,12 @@ pub(crate) fn answer_line(
     room: &mut JsonRoom,
     net: &mut Net,
     bytes: &[u8],
-    reply: &mut String,
-) -> Result<Option<Coded>, AllocError>
-    requires { string_bytes reply.old ≡ [] }
+    reply: &mut LineReply,
+) -> Result<(), AllocError>
+    requires { IsBlank reply.old }
     ensures told { OnOk result (Replies net.old (accepted_as accepted (line_in bytes.now))
-        (string_bytes reply.new) net.new) }
-    ensures refusal { IfOk result (λ refusal. Tells (string_bytes reply.new) (coded refusal)) }
+        (string_bytes reply.new.text) net.new) }
+    ensures refusal { OnOk result (TellsRefusal reply.new) }
 {
     match Document::read(alloc, room, bytes)? {
         Some(document) => answer_object(alloc, accepted, net, &document.root(), reply),

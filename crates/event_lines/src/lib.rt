@@ -15,6 +15,7 @@ pub mod laws;
 mod line;
 mod line_run;
 pub mod members;
+mod policy_misfit;
 mod run;
 mod session;
 mod text;

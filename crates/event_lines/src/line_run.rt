@@ -1,9 +1,10 @@
 //! A run whose lines come one by one.
 
-ghost use Rattle.std.specs.Prelude.{◌≡◌, [], Ok, option_map};
+ghost use Rattle.std.specs.Prelude.{◌≡◌, Ok, option_map};
 ghost use Rattle.std.specs.String.{string_bytes};
 ghost use Rattle.network_core.specs.Value.{NetValue};
 ghost use Rattle.event_lines.specs.Answers.{Open, Unbegun};
+ghost use Rattle.event_lines.specs.inner.Seen.{IsBlank};
 ghost use Rattle.event_lines.specs.inner.Session.{Begins};
 ghost use Rattle.event_lines.specs.Refusals.{coded};
 ghost use Rattle.event_lines.specs.Replies.{RepliesUnlessFull, TellsUnlessFull, refusal_behind, reply_behind, stage_behind, stage_of};
@@ -11,7 +12,7 @@ ghost use Rattle.event_lines.specs.Replies.{RepliesUnlessFull, TellsUnlessFull, 
 use crate::accepted::AcceptedLines;
 use crate::fault::RunFault;
 use crate::happening::answer_line;
-use crate::text::Coded;
+use crate::text::LineReply;
 use json_fields::JsonRoom;
 use network_core::Net;
 use refusal::{NumberedFault, OrMemory};
@@ -20,40 +21,33 @@ use std::alloc::Global;
 use std::fmt::Write;
 
 /// A run whose lines come one by one: its network, once the topology was read; its reply to the
-/// last line, with the refusal that it tells; and the room for reading a line, kept from line to
-/// line.
+/// last line; and the room for reading a line, kept from line to line.
 #[derive(Drop)]
 pub struct LineRun {
     pub(crate) net: Option<Net>,
-    pub(crate) reply: String,
-    pub(crate) refusal: Option<Coded>,
+    pub(crate) reply: LineReply,
     json: JsonRoom,
 }
 
-/// The network of the first line, whose reply is written, and the refusal that it tells.
-/// [`RunFault::Topology`] if the line is no topology.
+/// The network of the first line, whose reply is written. [`RunFault::Topology`] if the line is no
+/// topology.
 #[tactic(auto, using(crate::proofs::Tells::begun_tells, crate::proofs::Tells::topology_tells))]
-fn begin(
-    alloc: Global,
-    line: &[u8],
-    reply: &mut String,
-    refusal: &mut Option<Coded>,
-) -> Result<Net, RunFault>
-    requires { string_bytes reply.old ≡ [] }
+fn begin(alloc: Global, line: &[u8], reply: &mut LineReply) -> Result<Net, RunFault>
+    requires { IsBlank reply.old }
     ensures begun { (accepted : AcceptedLines) → Begins accepted result line.now
-        (string_bytes reply.new) }
-    ensures refusal { TellsUnlessFull result (string_bytes reply.new) (coded refusal.new) }
+        (string_bytes reply.new.text) }
+    ensures refusal { TellsUnlessFull result (string_bytes reply.new.text)
+        (coded reply.new.refusal) }
 {
-    *refusal = None;
     match Topology::from_json(alloc, line) {
         Ok(topology) => {
             topology.known();
-            reply.push_str("topology ok")?;
+            reply.text.push_str("topology ok")?;
             Ok(Net::new(alloc, topology))
         }
         Err(OrMemory::Refused(fault)) => {
-            write!(reply, "topology no {} {}", fault.code(), fault.name())?;
-            *refusal = Some(fault.code_and_name());
+            reply.refusal = Some(fault.code_and_name());
+            write!(reply.text, "topology no {} {}", fault.code(), fault.name())?;
             Err(RunFault::Topology)
         }
         Err(OrMemory::Memory) => Err(RunFault::Memory),
@@ -67,8 +61,7 @@ impl LineRun {
     {
         Self {
             net: None,
-            reply: String::new(alloc),
-            refusal: None,
+            reply: LineReply::new(alloc),
             json: JsonRoom::new(alloc),
         }
     }
@@ -95,10 +88,10 @@ impl LineRun {
         match &mut self.net {
             Some(net) => {
                 let (json, reply) = (&mut self.json, &mut self.reply);
-                self.refusal = answer_line(alloc, accepted, json, net, line, reply)?;
+                answer_line(alloc, accepted, json, net, line, reply)?;
             }
             None => {
-                let begun = begin(alloc, line, &mut self.reply, &mut self.refusal)?;
+                let begun = begin(alloc, line, &mut self.reply)?;
                 self.net = Some(begun);
             }
         }
@@ -109,7 +102,7 @@ impl LineRun {
     pub fn reply(&self) -> &str
         ensures { result.now ≡ reply_behind self.now }
     {
-        self.reply.as_str()
+        self.reply.text.as_str()
     }
 
     /// The number and the name of the refusal that the reply to the last line tells: that of the
@@ -117,7 +110,7 @@ impl LineRun {
     pub fn refusal(&self) -> Option<(u16, &'static str)>
         ensures { coded result ≡ refusal_behind self.now }
     {
-        self.refusal
+        self.reply.refusal
     }
 
     /// The network after the last line, once the topology was read.

@@ -1,5 +1,4 @@
-//! The table of lines: their words, and the members of each with the forms of their values; and the
-//! members of a topology's objects.
+//! The members of lines and of a topology's objects, with the forms of their values.
 //!
 //! A line is read exactly if it has its members, and with `ask` a policy; so is an object of a
 //! topology ([`laws`](crate::laws)). Who says why a line was not read looks here for the member.
@@ -8,11 +7,14 @@ ghost use Rattle.std.specs.Prelude.{◌≡◌, ◌↔◌, ◌&&◌, ◌∷◌, [
 ghost use Rattle.hex.specs.Hex.{decode_of, is_hex_digit};
 ghost use Rattle.isd_as.specs.Reading.{address_at};
 ghost use Rattle.serde_json.specs.Data.{Data};
-ghost use Rattle.serde_json.specs.Find.{as_number, as_str, as_u64};
+ghost use Rattle.serde_json.specs.Find.{as_array, as_number, as_str, as_u64};
 ghost use Rattle.serde_json.specs.View.{view};
 ghost use Rattle.event_lines.specs.declared.members.MemberForm.TheVariants.{Text};
-ghost use Rattle.event_lines.specs.Members.{as_members, end_members, first_misfit, has_form, has_member, is_plain, line_words, link_members, long_form, member_value, members_of, named, number_within, option_members, policy_members, topology_members};
+ghost use Rattle.event_lines.specs.Members.{are_texts, as_members, end_members, first_misfit, has_form, has_member, is_plain, link_members, member_value, named, number_within, option_members, policy_members, topology_members};
 
+pub use crate::line::{line_words, members_of};
+use crate::policy_misfit::first_no_text;
+pub use crate::policy_misfit::{PolicyMisfit, policy_misfit};
 use isd_as::IsdAs;
 use scion_topology::MAX_KEY_LEN;
 use serde_json::Value;
@@ -43,6 +45,10 @@ pub enum MemberForm {
     LinkKind,
     /// A text.
     Text,
+    /// A list of texts.
+    Texts,
+    /// None: the member is to be absent.
+    Absent,
 }
 
 /// A member that an object is to have: its name, and the form of its value.
@@ -50,101 +56,30 @@ pub enum MemberForm {
 pub struct Member(pub &'static str, pub MemberForm);
 
 /// A number of 8 bits.
-const BYTE: MemberForm = MemberForm::Whole(0, 255);
+pub(crate) const BYTE: MemberForm = MemberForm::Whole(0, 255);
 
 /// A number of 16 bits.
-const SHORT: MemberForm = MemberForm::Whole(0, 65_535);
+pub(crate) const SHORT: MemberForm = MemberForm::Whole(0, 65_535);
 
 /// A number of 32 bits.
-const LONG: MemberForm = MemberForm::Whole(0, 4_294_967_295);
-
-/// The words of lines.
-static WORDS: [&str; 15] = [
-    "tick",
-    "originate",
-    "extend",
-    "terminate",
-    "sweep",
-    "ask",
-    "send",
-    "back",
-    "turn",
-    "lose",
-    "alter",
-    "cut",
-    "mend",
-    "rotate",
-    "show",
-];
+pub(crate) const LONG: MemberForm = MemberForm::Whole(0, 4_294_967_295);
 
 /// The word of a line.
 static WORD: [Member; 1] = [Member("do", MemberForm::Text)];
 
-static TICK: [Member; 1] = [Member("now", LONG)];
-
-static ORIGINATE: [Member; 3] = [
-    Member("ia", MemberForm::Address),
-    Member("egress", SHORT),
-    Member("beta0", SHORT),
-];
-
-static EXTEND: [Member; 3] = [
-    Member("beacon", LONG),
-    Member("ia", MemberForm::Address),
-    Member("egress", SHORT),
-];
-
-static TERMINATE: [Member; 2] = [Member("beacon", LONG), Member("ia", MemberForm::Address)];
-
-static SWEEP: [Member; 0] = [];
-
-static ASK: [Member; 3] = [
-    Member("src", MemberForm::Address),
-    Member("dst", MemberForm::Address),
-    Member("limit", MemberForm::Limit),
-];
-
 /// The word of a request, and the members with its policy, which may be absent.
 static POLICY: [Member; 4] = [
     Member("do", MemberForm::Text),
-    Member("acl", MemberForm::Items),
+    Member("acl", MemberForm::Texts),
     Member("sequence", MemberForm::Text),
     Member("options", MemberForm::Items),
 ];
 
-/// The weight of a policy option, which it has to have.
-static WEIGHT: [Member; 1] = [Member("weight", LONG)];
-
-/// All members of a policy option.
+/// The members of a policy option.
 static OPTION: [Member; 3] = [
     Member("weight", LONG),
-    Member("acl", MemberForm::Items),
+    Member("acl", MemberForm::Texts),
     Member("sequence", MemberForm::Text),
-];
-
-static SEND: [Member; 3] = [
-    Member("payload", MemberForm::Bytes),
-    Member("ask", LONG),
-    Member("path", LONG),
-];
-
-static BACK: [Member; 2] = [Member("payload", MemberForm::Bytes), Member("packet", LONG)];
-
-/// Of `turn`, `lose` and `show`.
-static PACKET: [Member; 1] = [Member("packet", LONG)];
-
-static ALTER: [Member; 3] = [
-    Member("packet", LONG),
-    Member("at", LONG),
-    Member("xor", BYTE),
-];
-
-/// Of `cut` and `mend`.
-static INTERFACE: [Member; 2] = [Member("ia", MemberForm::Address), Member("if", SHORT)];
-
-static ROTATE: [Member; 2] = [
-    Member("key", MemberForm::Bytes),
-    Member("ia", MemberForm::Address),
 ];
 
 static TOPOLOGY: [Member; 2] = [
@@ -178,41 +113,11 @@ static END: [Member; 3] = [
     Member("router", MemberForm::Whole(0, 63)),
 ];
 
-/// The words of lines.
-pub fn line_words() -> &'static [&'static str]
-    ensures { map (λ word. word.now) result.now ≡ line_words }
-{
-    &WORDS
-}
-
 /// The member with the word of a line.
 pub fn word_member() -> &'static [Member]
     ensures { map member_value result.now ≡ named (codes "do") Text ∷ [] }
 {
     &WORD
-}
-
-/// The members of the lines with this word, in the order in which they are looked for; `None` if no
-/// line has the word. The policy of a request is not among them.
-#[tactic(auto, unfolding(crate::specs::Members::members_of))]
-pub fn members_of(word: &str) -> Option<&'static [Member]>
-    ensures { option_map (λ members. map member_value members.now) result ≡ members_of word.now }
-{
-    match word {
-        "show" | "turn" | "lose" => Some(&PACKET),
-        "ask" => Some(&ASK),
-        "send" => Some(&SEND),
-        "back" => Some(&BACK),
-        "rotate" => Some(&ROTATE),
-        "tick" => Some(&TICK),
-        "originate" => Some(&ORIGINATE),
-        "extend" => Some(&EXTEND),
-        "terminate" => Some(&TERMINATE),
-        "sweep" => Some(&SWEEP),
-        "alter" => Some(&ALTER),
-        "cut" | "mend" => Some(&INTERFACE),
-        _ => None,
-    }
 }
 
 /// The member with the word of a request, and those with its policy, each of which may be absent.
@@ -222,14 +127,7 @@ pub fn policy_members() -> &'static [Member]
     &POLICY
 }
 
-/// The member that a policy option has to have: its weight.
-pub fn weight_member() -> &'static [Member]
-    ensures { map member_value result.now ≡ named (codes "weight") long_form ∷ [] }
-{
-    &WEIGHT
-}
-
-/// All members of a policy option; `acl` and `sequence` may be absent.
+/// The members of a policy option; `acl` and `sequence` may be absent.
 pub fn option_members() -> &'static [Member]
     ensures { map member_value result.now ≡ option_members }
 {
@@ -276,6 +174,8 @@ impl MemberForm {
             MemberForm::Whole(low, high) => is_whole(value, low, high),
             MemberForm::Limit => is_whole(value, 0, 4_294_967_295),
             MemberForm::Text => value.is_string(),
+            MemberForm::Texts => are_texts(value),
+            MemberForm::Absent => false,
             MemberForm::Address
             | MemberForm::AsAddress
             | MemberForm::Key
@@ -310,6 +210,16 @@ fn is_whole(value: &Value, low: u64, high: u64) -> bool
 {
     match value.as_u64() {
         Some(number) => low <= number && number <= high,
+        None => false,
+    }
+}
+
+/// Whether a value is a list of texts.
+fn are_texts(value: &Value) -> bool
+    ensures { result ≡ are_texts (as_array (view value.now)) }
+{
+    match value.as_array() {
+        Some(entries) => first_no_text(entries).is_none(),
         None => false,
     }
 }
@@ -400,6 +310,8 @@ impl fmt::Display for MemberForm {
             MemberForm::Bytes => "an even number of hexadecimal digits",
             MemberForm::LinkKind => "\"core\" or \"child\"",
             MemberForm::Text => "a text",
+            MemberForm::Texts => "a list of texts",
+            MemberForm::Absent => "none beside options",
         };
         f.write_str(words)
     }

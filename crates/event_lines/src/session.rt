@@ -46,9 +46,9 @@ fn answer(
         line.now (string_bytes replies.old) (string_bytes replies.new) }
 {
     match run.answer(alloc, accepted, line) {
-        Ok(()) => Ok(add_reply(replies, &mut run.reply)?),
+        Ok(()) => Ok(add_reply(replies, &mut run.reply.text)?),
         Err(RunFault::Topology) => {
-            add_reply(replies, &mut run.reply)?;
+            add_reply(replies, &mut run.reply.text)?;
             Err(RunFault::Topology)
         }
         Err(fault) => Err(fault),

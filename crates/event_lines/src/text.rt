@@ -3,10 +3,11 @@
 //! A reply is written behind a text that is kept from line to line, so that it needs no memory of
 //! its own once that text has room.
 
-ghost use Rattle.std.specs.Prelude.{◌≡◌, ◌++◌, IfOk, OnOk, Some, flat_map, option_map};
+ghost use Rattle.std.specs.Prelude.{◌≡◌, ◌++◌, IfOk, None, OnOk, Some, flat_map, option_map};
 ghost use Rattle.std.specs.String.{string_bytes};
 ghost use Rattle.network_core.specs.Fault.{code_and_name};
 ghost use Rattle.event_lines.specs.Refusals.{bad_line_refusal, coded, refusal_of, refusal_shown};
+ghost use Rattle.event_lines.specs.inner.Seen.{IsBlank};
 ghost use Rattle.event_lines.specs.Text.{answer_in, answer_text, bad_line, fault_text, hop_text, hops_text, kinds_text, letter, outcome_text, packet_text, passed_text, path_text, paths_of, place_text, reply_text, turn_text};
 
 use combinator::Path;
@@ -19,8 +20,32 @@ use router_step::Outcome;
 use std::alloc::{AllocError, Global};
 use std::fmt::Write;
 
-/// The number and the name of a refusal.
-pub(crate) type Coded = (u16, &'static str);
+/// A reply: its text, and the number and the name of the refusal that it tells, if it tells one.
+#[derive(Drop)]
+pub(crate) struct LineReply {
+    pub(crate) text: String,
+    pub(crate) refusal: Option<(u16, &'static str)>,
+}
+
+impl LineReply {
+    /// A reply without text.
+    pub(crate) fn new(alloc: Global) -> Self
+        ensures { IsBlank result }
+    {
+        Self {
+            text: String::new(alloc),
+            refusal: None,
+        }
+    }
+
+    /// Takes the text and the refusal away.
+    pub(crate) fn clear(&mut self)
+        ensures { IsBlank self.new }
+    {
+        self.text.clear();
+        self.refusal = None;
+    }
+}
 
 /// Adds a hop.
 fn push_hop(text: &mut String, hop: &WalkHop) -> Result<(), AllocError>
@@ -88,42 +113,43 @@ pub(crate) fn push_outcome(text: &mut String, outcome: Outcome) -> Result<(), Al
     }
 }
 
-/// Adds the reply of a turn. Returns the refusal of the packet, if there is one.
-fn push_turn(text: &mut String, reply: TurnReply) -> Result<Option<Coded>, AllocError>
+/// Adds the reply of a turn, and the refusal of the packet, if there is one.
+fn push_turn(reply: &mut LineReply, turned: TurnReply) -> Result<(), AllocError>
+    requires none { reply.old.refusal ≡ None }
     ensures added { OnOk result
-        (string_bytes text.new ≡ string_bytes text.old ++ turn_text reply) }
-    ensures refusal { IfOk result (λ refusal. coded refusal ≡ refusal_of (Reply.Turned reply)) }
+        (string_bytes reply.new.text ≡ string_bytes reply.old.text ++ turn_text turned) }
+    ensures refusal { OnOk result (coded reply.new.refusal ≡ refusal_of (Reply.Turned turned)) }
 {
-    match reply {
-        TurnReply::Went(outcome) => push_outcome(text, outcome)?,
+    match turned {
+        TurnReply::Went(outcome) => push_outcome(&mut reply.text, outcome),
         TurnReply::Refused(cause) => {
-            text.push_str("refused ")?;
-            cause.push_to(text)?;
-            return Ok(Some(cause.code_and_name()));
+            reply.refusal = Some(cause.code_and_name());
+            reply.text.push_str("refused ")?;
+            cause.push_to(&mut reply.text)
         }
-        TurnReply::Still => text.push_str("ok")?,
+        TurnReply::Still => reply.text.push_str("ok"),
     }
-    Ok(None)
 }
 
-/// Adds the refusal of an event, and returns it.
-fn push_fault(text: &mut String, fault: EventFault) -> Result<Option<Coded>, AllocError>
+/// Adds the refusal of an event.
+fn push_fault(reply: &mut LineReply, fault: EventFault) -> Result<(), AllocError>
     ensures added { OnOk result
-        (string_bytes text.new ≡ string_bytes text.old ++ fault_text fault) }
-    ensures refusal { IfOk result (λ refusal. coded refusal ≡ Some (code_and_name fault)) }
+        (string_bytes reply.new.text ≡ string_bytes reply.old.text ++ fault_text fault) }
+    ensures refusal { OnOk result (coded reply.new.refusal ≡ Some (code_and_name fault)) }
 {
     let (code, name) = fault.code_and_name();
-    write!(text, "no {code} {name}")?;
-    Ok(Some((code, name)))
+    reply.refusal = Some((code, name));
+    write!(reply.text, "no {code} {name}")
 }
 
-/// Adds the reply to a bad line, and returns its refusal.
-pub(crate) fn push_bad_line(text: &mut String) -> Result<Option<Coded>, AllocError>
-    ensures added { OnOk result (string_bytes text.new ≡ string_bytes text.old ++ bad_line) }
-    ensures refusal { IfOk result (λ refusal. coded refusal ≡ bad_line_refusal) }
+/// Adds the reply to a bad line.
+pub(crate) fn push_bad_line(reply: &mut LineReply) -> Result<(), AllocError>
+    ensures added { OnOk result
+        (string_bytes reply.new.text ≡ string_bytes reply.old.text ++ bad_line) }
+    ensures refusal { OnOk result (coded reply.new.refusal ≡ bad_line_refusal) }
 {
-    text.push_str("no 140 BadLine")?;
-    Ok(Some((140, "BadLine")))
+    reply.refusal = Some((140, "BadLine"));
+    reply.text.push_str("no 140 BadLine")
 }
 
 /// Adds the walk of each path of an answer.
@@ -157,29 +183,30 @@ fn paths_in(net: &Net, number: usize) -> &[Path]
     }
 }
 
-/// Adds the reply to an event, in the network after it. Returns the refusal that it tells, if it
-/// tells one.
+/// Adds the reply to an event, in the network after it, and the refusal that it tells, if it tells
+/// one.
 pub(crate) fn push_reply(
-    text: &mut String,
+    reply: &mut LineReply,
     net: &Net,
-    reply: Reply,
-) -> Result<Option<Coded>, AllocError>
-    ensures added { OnOk result (string_bytes text.new
-        ≡ string_bytes text.old ++ reply_text net.now reply) }
-    ensures refusal { IfOk result (λ refusal. coded refusal ≡ refusal_of reply) }
+    answered: Reply,
+) -> Result<(), AllocError>
+    requires none { reply.old.refusal ≡ None }
+    ensures added { OnOk result (string_bytes reply.new.text
+        ≡ string_bytes reply.old.text ++ reply_text net.now answered) }
+    ensures refusal { OnOk result (coded reply.new.refusal ≡ refusal_of answered) }
 {
-    match reply {
-        Reply::Done => text.push_str("ok")?,
-        Reply::Begun(beacon) => write!(text, "beacon {beacon}")?,
-        Reply::Registered(true) => text.push_str("segment new")?,
-        Reply::Registered(false) => text.push_str("segment known")?,
-        Reply::Swept(count) => write!(text, "swept {count}")?,
-        Reply::Answered(number) => push_answer(text, number, paths_in(net, number))?,
-        Reply::Sent(packet) => write!(text, "packet {packet}")?,
-        Reply::Turned(turned) => return push_turn(text, turned),
-        Reply::Refused(cause) => return push_fault(text, cause),
+    let text = &mut reply.text;
+    match answered {
+        Reply::Done => text.push_str("ok"),
+        Reply::Begun(beacon) => write!(text, "beacon {beacon}"),
+        Reply::Registered(true) => text.push_str("segment new"),
+        Reply::Registered(false) => text.push_str("segment known"),
+        Reply::Swept(count) => write!(text, "swept {count}"),
+        Reply::Answered(number) => push_answer(text, number, paths_in(net, number)),
+        Reply::Sent(packet) => write!(text, "packet {packet}"),
+        Reply::Turned(turned) => push_turn(reply, turned),
+        Reply::Refused(cause) => push_fault(reply, cause),
     }
-    Ok(None)
 }
 
 /// Adds the place of a packet.
@@ -209,23 +236,20 @@ fn push_passed(text: &mut String, passed: &[WalkHop]) -> Result<(), AllocError>
     push_hops(text, passed)
 }
 
-/// Adds the reply about a packet: its place, and the hops that it has passed. Returns the refusal
-/// that it tells, if there is no packet.
-pub(crate) fn push_packet(
-    text: &mut String,
-    packet: Option<&Packet>,
-) -> Result<Option<Coded>, AllocError>
-    ensures added { OnOk result (string_bytes text.new
-        ≡ string_bytes text.old ++ packet_text (option_map (λ p. p.now) packet.entry)) }
-    ensures refusal { IfOk result (λ refusal. coded refusal
+/// Adds the reply about a packet: its place, and the hops that it has passed; or the refusal, if
+/// there is no packet.
+pub(crate) fn push_packet(reply: &mut LineReply, packet: Option<&Packet>) -> Result<(), AllocError>
+    requires none { reply.old.refusal ≡ None }
+    ensures added { OnOk result (string_bytes reply.new.text
+        ≡ string_bytes reply.old.text ++ packet_text (option_map (λ p. p.now) packet.entry)) }
+    ensures refusal { OnOk result (coded reply.new.refusal
         ≡ refusal_shown (option_map (λ p. p.now) packet.entry)) }
 {
     match packet {
-        None => push_fault(text, EventFault::NoPacket),
+        None => push_fault(reply, EventFault::NoPacket),
         Some(packet) => {
-            push_place(text, packet.place())?;
-            push_passed(text, packet.passed())?;
-            Ok(None)
+            push_place(&mut reply.text, packet.place())?;
+            push_passed(&mut reply.text, packet.passed())
         }
     }
 }

@@ -5,7 +5,7 @@ use crate::history::text_of;
 use crate::said::Said;
 use crate::sentence::push_sentence;
 use crate::sequence::push_stop;
-use event_lines::members::{MemberForm, weight_member};
+use event_lines::members::policy_misfit;
 use policy_expr::{Acl, AclText, MAX_ACL_ENTRIES, PolicyFault, Seq};
 use refusal::OrMemory;
 use separators::text::trim;
@@ -19,72 +19,37 @@ pub(crate) fn push_bad_form(
     line: Place<'_>,
     request: &Value,
 ) -> Result<bool, AllocError> {
-    let Some(options) = request.get("options") else {
-        return push_bad_texts(why, line, request);
+    let Some(part) = policy_misfit(request) else {
+        return Ok(false);
     };
-    for name in ["acl", "sequence"] {
-        if let Some(value) = request.get(name) {
-            push_place(why, line, name)?;
-            push_wanted(why, line, Some(value), &"none beside options")?;
-            return Ok(true);
+    let (place, policy) = match part.option {
+        None => (line, request),
+        Some(number) => {
+            let option = item_of(request.get("options"), number);
+            (line.item("options", number), option.unwrap_or(request))
         }
-    }
-    let Value::Array(options) = options else {
-        push_place(why, line, "options")?;
-        push_wanted(why, line, Some(options), &MemberForm::Items)?;
-        return Ok(true);
     };
-    push_bad_option(why, line, options)
-}
-
-/// Adds the first option that has not its form. Returns whether there is one.
-fn push_bad_option(why: &mut Said, line: Place<'_>, options: &[Value]) -> Result<bool, AllocError> {
-    for (number, option) in options.iter().enumerate() {
-        let place = line.item("options", number);
-        if push_misfit(why, place, option, weight_member())?
-            || push_bad_texts(why, place, option)?
-        {
-            return Ok(true);
-        }
-    }
-    Ok(false)
-}
-
-/// Adds the text of a policy that is none. Returns whether there is one.
-fn push_bad_texts(why: &mut Said, place: Place<'_>, policy: &Value) -> Result<bool, AllocError> {
-    match policy.get("acl") {
-        None => {}
-        Some(Value::Array(entries)) => {
-            if push_no_text(why, place, entries)? {
-                return Ok(true);
-            }
-        }
-        Some(value) => {
-            push_place(why, place, "acl")?;
-            push_wanted(why, place, Some(value), &"a list of texts")?;
-            return Ok(true);
-        }
-    }
-    match policy.get("sequence") {
-        None | Some(Value::String(_)) => Ok(false),
-        Some(value) => {
-            push_place(why, place, "sequence")?;
-            push_wanted(why, place, Some(value), &MemberForm::Text)?;
+    match part.entry {
+        None => push_misfit(why, place, policy, &[part.member]),
+        Some(number) => {
+            push_entry(why, place, number)?;
+            push_wanted(
+                why,
+                place,
+                item_of(policy.get("acl"), number),
+                &part.member.1,
+            )?;
             Ok(true)
         }
     }
 }
 
-/// Adds the first entry of a list that is no text. Returns whether there is one.
-fn push_no_text(why: &mut Said, place: Place<'_>, entries: &[Value]) -> Result<bool, AllocError> {
-    for (number, entry) in entries.iter().enumerate() {
-        if !entry.is_string() {
-            push_entry(why, place, number)?;
-            push_wanted(why, place, Some(entry), &MemberForm::Text)?;
-            return Ok(true);
-        }
+/// The item of this number of a list.
+fn item_of(list: Option<&Value>, number: usize) -> Option<&Value> {
+    match list {
+        Some(Value::Array(items)) => items.get(number),
+        _ => None,
     }
-    Ok(false)
 }
 
 /// Adds where the first policy of a request that is refused can't be read, and the sentence of the

@@ -19,7 +19,7 @@ use Rattle.policy_expr.specs.Options.{option_at, options_at}
 use Rattle.policy_expr.specs.Policy.{policy_at}
 use Rattle.event_lines.specs.declared.accepted.AcceptedLines.TheVariants.{All}
 use Rattle.event_lines.specs.Answers.{events_of}
-use Rattle.event_lines.specs.Line.{line_in, said_by, line_with_word, plain_event, traffic_event, ask_in, send_in, show_in, ia_in, bytes_at, texts_at, maybe_text_at, option_with, one_option}
+use Rattle.event_lines.specs.Line.{line_in, said_by, line_with_word, plain_lines, traffic_lines, ia_in, bytes_at, texts_at, maybe_text_at, option_with, one_option}
 use Rattle.row_history.specs.Row.{row, row_events}
 use Rattle.row_lines.specs.Lines.{topology_line, later_lines}
 
@@ -28,5 +28,5 @@ unfolding network_of document_in is_utf8 text_at truth_at whole_at list_at numbe
 topology_read = refl
 
 pub later_read : events_of All later_lines ≡ row_events
-unfolding line_in document_in is_utf8 said_by text_at whole_at list_at line_with_word plain_event traffic_event ask_in send_in show_in ia_in bytes_at texts_at maybe_text_at option_with one_option number_of chars encode_utf8 value items members punctuate lex content word after_number scan number_at isd_at groups_at as_number_at address_at option_at options_at policy_at decode_pairs
+unfolding line_in document_in is_utf8 said_by text_at whole_at list_at line_with_word plain_lines traffic_lines ia_in bytes_at texts_at maybe_text_at option_with one_option number_of chars encode_utf8 value items members punctuate lex content word after_number scan number_at isd_at groups_at as_number_at address_at option_at options_at policy_at decode_pairs
 later_read = refl
