@@ -67,8 +67,9 @@ Row = tuple[str, list[tuple[str, str]], str]
 def table_of_lines() -> Iterator[Row]:
     """The table of lines, in its order."""
     text = LINES.read_text(encoding="utf-8")
+    statics = re.findall(r"^static (\w+): \[Member; \d+\] = (.*?);$", text, re.M | re.S)
     lists = {name: re.findall(r'Member\("(\w+)", (?:MemberForm::)?(\w+)', body)
-             for name, body in re.findall(r"^static (\w+): \[Member; \d+\] = (.*?);$", text, re.M | re.S)}
+             for name, body in statics}
     arms = re.findall(r'((?: +// .*\n)*) +"(\w+)" => Some\(&(\w+)\)', text)
     for comment, word, name in arms:
         said = comment_of(comment)
@@ -103,9 +104,11 @@ def values() -> Iterator[str]:
 
 def help_of_words() -> str:
     """The words of lines with their other members, in columns."""
-    cells = [" ".join([word, *(name for name, _ in listed)]) for word, listed, _ in table_of_lines()]
+    table = table_of_lines()
+    cells = [" ".join([word, *(name for name, _ in listed)]) for word, listed, _ in table]
     rows = [cells[at : at + COLUMNS] for at in range(0, len(cells), COLUMNS)]
-    widths = [max(map(len, column)) + BETWEEN for column in itertools.zip_longest(*rows, fillvalue="")]
+    columns = itertools.zip_longest(*rows, fillvalue="")
+    widths = [max(map(len, column)) + BETWEEN for column in columns]
     lines = ("".join(f"{cell:{width}}" for cell, width in zip(row, widths)) for row in rows)
     return "".join(f"  {line.rstrip()}\n" for line in lines)
 
@@ -231,9 +234,13 @@ def written(text: str) -> str:
         table = re.compile(rf"(?<={re.escape(head)}\n)(\|[-|]+\n)(?:\|.*\n)+")
         if not table.search(text):
             sys.exit(f"{PAGE} has no table with the head {head}")
-        lines = "".join(f"{it}\n" for it in rows)
-        text = table.sub(lambda found, lines=lines: found[1] + lines, text)
+        text = with_rows(text, table, "".join(f"{it}\n" for it in rows))
     return text
+
+
+def with_rows(text: str, table: re.Pattern[str], rows: str) -> str:
+    """The page with these rows below the head and the rule of a table."""
+    return table.sub(lambda found: found[1] + rows, text)
 
 
 def helped(text: str) -> str:

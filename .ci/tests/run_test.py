@@ -76,7 +76,7 @@ class Runs(unittest.TestCase):
         ends only once the other has begun."""
         with tempfile.TemporaryDirectory() as folder:
             meets = [waiting(f"{folder}/{met}", f"open('{folder}/{it}', 'w')", f"print('{it}: 1')")
-                     for it, met in ("ab", "ba")]
+                     for it, met in (("a", "b"), ("b", "a"))]
             with mock.patch.object(run, "MINUTE", 2), \
                     contextlib.redirect_stdout(io.StringIO()) as out:
                 ended = run_all([[[meets[0]], [meets[1]]], [[Python("print('c: 1')")]]],
