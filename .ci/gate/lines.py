@@ -28,7 +28,7 @@ BESIDE = {"ask": ", and a policy (below)"}
 VALUES = {
     "Address": "addresses",
     "Bytes": "bytes",
-    "Limit": "0 to 4,294,967,295; of these, 1 to 64 are not refused",
+    "Limit": "1 to 64; any other up to 4,294,967,295 is refused (137 BadLimit)",
 }
 
 # The columns of words in the help, and the blanks between them.
