@@ -74,15 +74,15 @@ impl<'s, 'p, A: Allocator + Clone> Paths<'s, 'p, A> {
 /// fields, header bytes and walk, and the first `limit` of them are returned.
 ///
 /// What it costs: a segment to `src` or `dst` gives at most 62 usable pieces, those with that AS at
-/// their end, and a core segment gives two. Pieces that put the same hops into a walk are one group.
-/// With P pieces of h hops, which are at most 63, making and sorting pieces and groups takes about
-/// P (h + log P) steps. With g groups there are at most g + g² + g³ lists of groups; those that meet
-/// are tried, up, core and down in this order, but for those that surely come behind `limit` known
-/// paths. Each of them takes a look at the pieces of its groups; one whose best path may be among the
-/// first also h steps of the verifier and what the policy takes; and one that is allowed also h steps
-/// for each group that begins where a hop of its walk does and leaves it by the walk's way. Paths are
-/// made for the answer alone. The memory is that of P pieces of 80 bytes, g groups of 40, and `limit`
-/// paths of some 2,300 bytes each.
+/// their end, and a core segment gives two. Pieces that put the same hops into a walk are one
+/// group. With P pieces of h hops, which are at most 63, making and sorting pieces and groups takes
+/// about P (h + log P) steps. With g groups there are at most g + g² + g³ lists of groups; those
+/// that meet are tried, up, core and down in this order, but for those that surely come behind
+/// `limit` known paths. Each of them takes a look at the pieces of its groups; one whose best path
+/// may be among the first also h steps of the verifier and what the policy takes; and one that is
+/// allowed also h steps for each group that begins where a hop of its walk does and leaves it by
+/// the walk's way. Paths are made for the answer alone. The memory is that of P pieces of 80 bytes,
+/// g groups of 40, and `limit` paths of some 2,300 bytes each.
 ///
 /// [`AllocError`] if memory runs out.
 pub fn paths_between<'s, 'p, A: Allocator + Clone>(

@@ -1,4 +1,5 @@
-//! Whether a path is the best for its walk: no list of groups with the same walk gives a better one.
+//! Whether a path is the best for its walk: no list of groups with the same walk gives a better
+//! one.
 
 ghost use Rattle.std.specs.Prelude.{◌≡◌, ◌+◌, ◌<◌, ◌≤◌, length, All, IsTrue, IsFalse};
 ghost use Rattle.path_verifier.specs.Walk.{walk_of};

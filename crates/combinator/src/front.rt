@@ -101,8 +101,8 @@ impl<'g, 'a, 's> Front<'g, 'a, 's> {
         }
     }
 
-    /// The place, in the walk of a path that begins with pieces of these groups, of the hop in which
-    /// they end; 0 if there are none.
+    /// The place, in the walk of a path that begins with pieces of these groups, of the hop in
+    /// which they end; 0 if there are none.
     pub(crate) fn end_place(&self) -> usize
         ensures place { IsEndOf result (groups_in self.now) }
         ensures few { result ≤ 186 }
@@ -116,8 +116,8 @@ impl<'g, 'a, 's> Front<'g, 'a, 's> {
         }
     }
 
-    /// The lengths of a path of one piece of each of these groups, one more, and `further` pieces of
-    /// two hop fields.
+    /// The lengths of a path of one piece of each of these groups, one more, and `further` pieces
+    /// of two hop fields.
     pub(crate) fn lens_with(&self, group: &Group<'_, '_>, further: usize) -> SegLens
         requires few { length (groups_in self.now) + further ≤ 2 }
         requires one { further ≤ 1 }

@@ -59,7 +59,8 @@ impl<'a, 's> Group<'a, 's> {
         }
     }
 
-    /// Does nothing; its contract tells the caller that its pieces may occur in paths and are alike.
+    /// Does nothing; its contract tells the caller that its pieces may occur in paths and are
+    /// alike.
     pub(crate) fn known(&self)
         ensures { IsGroup self.now }
     {

@@ -2,10 +2,10 @@
 //! it answers the path that expires last, in a fixed order and up to a limit.
 //!
 //! It lists the usable pieces once and divides them into groups of pieces that put the same hops
-//! into a walk. Of a list of groups that meet, one path is the best, and it is found place by place;
-//! only that one is looked at, and only if its hop fields and info fields don't tell that it is not
-//! among the first of the answer. The verifier's rules decide whether it may be sent. It is kept if
-//! no list of groups with the same walk gives a better one.
+//! into a walk. Of a list of groups that meet, one path is the best, and it is found place by
+//! place; only that one is looked at, and only if its hop fields and info fields don't tell that it
+//! is not among the first of the answer. The verifier's rules decide whether it may be sent. It is
+//! kept if no list of groups with the same walk gives a better one.
 #![tactic(auto)]
 
 mod answer;

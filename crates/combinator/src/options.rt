@@ -189,8 +189,8 @@ fn is_wanted<A: Allocator + Clone>(
     }
 }
 
-/// Whether an option goes before another one: its weight is larger, or it is equal and the option is
-/// listed first.
+/// Whether an option goes before another one: its weight is larger, or it is equal and the option
+/// is listed first.
 fn goes_before<A: Allocator + Clone>(
     place: usize,
     option: &PolicyOption<A>,

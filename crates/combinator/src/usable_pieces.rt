@@ -19,10 +19,10 @@ use path_segment::{SegKind, Segment};
 use path_server::SegmentSet;
 use std::alloc::{AllocError, Global};
 
-/// The usable pieces of a set of segments, of which paths from `src` to `dst` are made: pieces of up
-/// segments that begin in `src`, pieces of down segments that end in `dst`, and whole core segments
-/// in both directions. None has expired. Those that put the same hops into a walk stand side by side, but for pieces that happen
-/// to have the same number as they do.
+/// The usable pieces of a set of segments, of which paths from `src` to `dst` are made: pieces of
+/// up segments that begin in `src`, pieces of down segments that end in `dst`, and whole core
+/// segments in both directions. None has expired. Those that put the same hops into a walk stand
+/// side by side, but for pieces that happen to have the same number as they do.
 pub(crate) fn usable_pieces_of<'s>(
     alloc: Global,
     set: &'s SegmentSet,

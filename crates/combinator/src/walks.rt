@@ -1,7 +1,7 @@
 //! The walks of the paths that may be sent.
 //!
-//! All lists of groups that meet are tried until there are as many walks as are looked for. The paths
-//! of a list of groups have one walk, so one of them is looked at.
+//! All lists of groups that meet are tried until there are as many walks as are looked for. The
+//! paths of a list of groups have one walk, so one of them is looked at.
 
 ghost use Rattle.std.specs.Prelude.{◌≡◌, ◌↔◌, ◌+◌, ◌<◌, ◌≤◌, [], length, All, Contains, IfNone, IfOk, IfSome, IsTrue, OnOk, List, option_map, slice_get};
 ghost use Rattle.policy_expr.specs.declared.hop.WalkHop.{WalkHop};
@@ -27,8 +27,8 @@ use std::alloc::{AllocError, Allocator, Global};
 use std::cmp::Ordering;
 use std::marker::Model;
 
-/// Walks of paths that may be sent, each once, in the order of walks: hop by hop, by AS, then by way
-/// in, then by way out.
+/// Walks of paths that may be sent, each once, in the order of walks: hop by hop, by AS, then by
+/// way in, then by way out.
 #[derive(Drop)]
 pub struct Walks {
     walks: Vec<Vec<WalkHop>>,
@@ -83,8 +83,8 @@ struct Gathering<'g, 'a, 's, 'p, A: Allocator + Clone> {
 /// sent at the set's second under a policy: all of them, or `limit` of them if there are as many.
 ///
 /// It costs what [`paths_between`](crate::paths_between) does for pieces and groups. Then each list
-/// of groups that meet takes h steps of the verifier for its h hops, and what the policy takes, until
-/// there are `limit` walks. The memory is that of pieces, groups and walks.
+/// of groups that meet takes h steps of the verifier for its h hops, and what the policy takes,
+/// until there are `limit` walks. The memory is that of pieces, groups and walks.
 ///
 /// [`AllocError`] if memory runs out.
 pub fn walks_between<A: Allocator + Clone>(

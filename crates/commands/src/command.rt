@@ -90,8 +90,9 @@ impl Command {
 /// The line, without its end, that `scionet step` prints for these words and this text on standard
 /// input. The words are those after the program's name.
 ///
-/// [`StepFault::Usage`] as in [`Command::parse`]; [`StepFault::NoCommand`] as there, and if the words
-/// are another command; then [`StepFault::PacketText`] as in [`StepCommand::line`]; [`StepFault::Memory`] if memory runs out.
+/// [`StepFault::Usage`] as in [`Command::parse`]; [`StepFault::NoCommand`] as there, and if the
+/// words are another command; then [`StepFault::PacketText`] as in [`StepCommand::line`];
+/// [`StepFault::Memory`] if memory runs out.
 pub fn step_line<'a>(alloc: Global, words: &'a [&'a str], packet: &str) -> Result<String, StepFault>
     ensures answers { AnswersTurn result (turn_asked (command_or_run (map (λ word. word.now)
         words.entry.now))) packet.now }

@@ -71,11 +71,12 @@ fn run_workers<R: Threads + Wait + Sync, S: Source, K: Sink>(
 /// and writes the lines of the result to the sink.
 ///
 /// The words are checked before anything is read. [`CommandFault::Usage`] and
-/// [`CommandFault::NoCommand`] as in [`Command::parse`]; [`CommandFault::Read`] if and only if the source failed, and [`CommandFault::Write`] if and only
-/// if the sink failed; [`CommandFault::InputTooLong`] if byte 67,108,865 is read;
-/// [`CommandFault::PacketText`] as in [`StepCommand::line`]; [`CommandFault::Topology`] as in
-/// [`run_lines`], after its reply; [`CommandFault::Workers`] as in [`work_lines`], after all
-/// replies; [`CommandFault::Memory`] if memory runs out.
+/// [`CommandFault::NoCommand`] as in [`Command::parse`]; [`CommandFault::Read`] if and only if the
+/// source failed, and [`CommandFault::Write`] if and only if the sink failed;
+/// [`CommandFault::InputTooLong`] if byte 67,108,865 is read; [`CommandFault::PacketText`] as in
+/// [`StepCommand::line`]; [`CommandFault::Topology`] as in [`run_lines`], after its reply;
+/// [`CommandFault::Workers`] as in [`work_lines`], after all replies; [`CommandFault::Memory`] if
+/// memory runs out.
 pub fn execute<'a, R: Threads + Wait + Sync, S: Source, K: Sink>(
     rt: &R,
     alloc: Global,

@@ -1,5 +1,5 @@
-//! All refusals of addresses, headers, segments, networks, policies and paths, each with its number,
-//! its name and its sentence.
+//! All refusals of addresses, headers, segments, networks, policies and paths, each with its
+//! number, its name and its sentence.
 
 use beaconing::BeaconFault;
 use combinator::CombineFault;

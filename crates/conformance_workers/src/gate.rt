@@ -139,9 +139,9 @@ fn report_of<R: Threads + Wait + Sync>(
     )?)
 }
 
-/// Asserts that two flights are delivered on this number of workers, of which two wait at their first
-/// turn for each other, and which turns each worker has. One flight goes from the row's last AS to
-/// its first, the other from the middle AS to the last.
+/// Asserts that two flights are delivered on this number of workers, of which two wait at their
+/// first turn for each other, and which turns each worker has. One flight goes from the row's last
+/// AS to its first, the other from the middle AS to the last.
 fn expect_meeting<R: Threads + Wait + Sync + Abort>(
     rt: &R,
     alloc: Global,

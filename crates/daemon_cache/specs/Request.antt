@@ -37,8 +37,8 @@ lawful_at request = do
   check (not (request.src == request.dst)) fault.SameAs
 
 -- the error of a request. If the request is lawful, the reader could not enter the board, and has
--- seen nothing more; or memory ran out once it had entered, and it has seen what it found. Else it is
--- the refusal of the request, and the reader was not used.
+-- seen nothing more; or memory ran out once it had entered, and it has seen what it found. Else it
+-- is the refusal of the request, and the reader was not used.
 abbrev pub GivesNoAnswer : (fault : OrMemory AskFault) (request : RequestValue)
     (before after : Informed) → Type 0
 GivesNoAnswer Memory request before after =

@@ -138,8 +138,8 @@ impl Daemon {
     ///
     /// What it costs: an answer from the cache costs a look-up of the segments and a copy of the
     /// answer, at most 64 paths of 64 hops. Any other one also costs a search, and with several
-    /// options a pass that finds the one that is used: what these take [`combinator::paths_between`]
-    /// and [`combinator::paths_with`] say.
+    /// options a pass that finds the one that is used: what these take
+    /// [`combinator::paths_between`] and [`combinator::paths_with`] say.
     ///
     /// The first of these refusals is returned: [`AskFault::BadLimit`] if the limit is not 1 to 64;
     /// those of [`policy_expr::PolicyOption::parse_all`]; [`AskFault::SameAs`] if both ends are the

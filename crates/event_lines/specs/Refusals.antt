@@ -1,4 +1,5 @@
--- The refusals that replies tell: that of a line, that of an event, or that of a packet at its turn.
+-- The refusals that replies tell: that of a line, that of an event, or that of a packet at its
+-- turn.
 use Rattle.std.specs.Prelude.{◌≡◌, ◌⊎◌, ℕ, ◌||◌, ◌&&◌, ◌==◌, if◌then◌else◌, not, codes, Bool, true, false, List, ◌++◌, nat_eq, Option, Some, None, option_map}
 use denote.Ref.{Bor}
 use Rattle.std.specs.List.{after_first, list_any, starts_with}

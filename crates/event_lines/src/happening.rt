@@ -1,7 +1,7 @@
 //! Replies to lines, and the events that happen.
 //!
-//! Each reply is written into one that is blank before it. Where memory runs out, that has a beginning
-//! of the text.
+//! Each reply is written into one that is blank before it. Where memory runs out, that has a
+//! beginning of the text.
 #![tactic(auto, unfolding(crate::specs::Line::line_in, crate::specs::Line::line_with_word, crate::specs::Line::said_by))]
 
 ghost use Rattle.std.specs.Prelude.{None, OnOk, Some};

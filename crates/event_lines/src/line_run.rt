@@ -106,7 +106,8 @@ impl LineRun {
     }
 
     /// The number and the name of the refusal that the reply to the last line tells: that of the
-    /// line, or of the packet whose turn it was. `None` if it tells none, or there was no reply yet.
+    /// line, or of the packet whose turn it was. `None` if it tells none, or there was no reply
+    /// yet.
     pub fn refusal(&self) -> Option<(u16, &'static str)>
         ensures { coded result ≡ refusal_behind self.now }
     {

@@ -86,7 +86,8 @@ impl IsdAs {
         self.isd().is_wildcard() || self.as_number().is_wildcard()
     }
 
-    /// Whether its ISD and its AS number are the wanted ones, where the wildcard 0 is wanted for any.
+    /// Whether its ISD and its AS number are the wanted ones, where the wildcard 0 is wanted for
+    /// any.
     // A hop is tried with many addresses, most of which the lower halves tell apart. So these come
     // first, and alone.
     pub fn fits(self, wanted: IsdAs) -> bool

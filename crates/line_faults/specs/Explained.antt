@@ -27,9 +27,9 @@ ExplainsWhole form read text = (lines : List (List ℕ)) × (rest : List ℕ) ×
     × (AreLines read lines rest × (GoesOn stage × Explains form lines stage text))
 
 -- what was read and written, by the result: what is found in all lines, and whether that is
--- something; or in those up to a topology that was refused; or, if a read failed, the input had more
--- than the largest number of bytes, or memory ran out at a line of which nothing was said yet, in
--- those before; or a beginning of it, if a write failed
+-- something; or in those up to a topology that was refused; or, if a read failed, the input had
+-- more than the largest number of bytes, or memory ran out at a line of which nothing was said yet,
+-- in those before; or a beginning of it, if a write failed
 abbrev pub ExplainsRead : (form : FindingForm) (result : Result Bool RunFault) (at_end : Type 0)
     (read went : List ℕ) → Type 0
 ExplainsRead form (Ok found) at_end read went = (lines : List (List ℕ)) × (stage : Stage)

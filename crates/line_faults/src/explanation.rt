@@ -30,7 +30,8 @@ fn on_one_line(text: &str) -> &str
     }
 }
 
-/// The finding that says why a line is refused, whose reply tells a refusal of this number and name.
+/// The finding that says why a line is refused, whose reply tells a refusal of this number and
+/// name.
 fn finding_of<'a>(line: &Line<'a>, code: u16, name: &'static str, why: &'a Said) -> Finding<'a>
     requires { Tells line.now.reply.now (Some (code, name.now)) }
     ensures is { IsReason line.now.number line.now.reply.now result }

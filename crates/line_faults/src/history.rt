@@ -25,8 +25,8 @@ pub(crate) struct KeyChanges {
     pub(crate) before: Option<usize>,
 }
 
-/// Lines that make a packet each, or a beacon each: how many of these there are, how many such lines
-/// were refused, and the first of them.
+/// Lines that make a packet each, or a beacon each: how many of these there are, how many such
+/// lines were refused, and the first of them.
 #[derive(Clone, Copy, Default)]
 pub(crate) struct Makers {
     made: usize,

@@ -88,8 +88,8 @@ fn push_stop(alloc: Global, why: &mut Said, text: &str, column: usize) -> Result
     push_odd_letter(why, rest)
 }
 
-/// Adds what a character is that a JSON text may have in a string alone, and that looks like another
-/// one or like nothing.
+/// Adds what a character is that a JSON text may have in a string alone, and that looks like
+/// another one or like nothing.
 fn push_odd_letter(why: &mut Said, text: &str) -> Result<(), AllocError> {
     let name = match text.chars().next() {
         Some('\u{FEFF}') => "a byte order mark",

@@ -117,8 +117,8 @@ impl Reading {
         }
     }
 
-    /// Whether the innermost object or list may end here; it may where it has begun, if that is what
-    /// stands here.
+    /// Whether the innermost object or list may end here; it may where it has begun, if that is
+    /// what stands here.
     fn may_close(&self, is_object: bool, begun: Next) -> bool {
         let is_innermost = match self.open.last() {
             Some(level) => level.is_object == is_object,

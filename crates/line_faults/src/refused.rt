@@ -148,7 +148,8 @@ fn push_interfaces(why: &mut Said, topology: &Topology, event: &Value) -> Result
     Ok(())
 }
 
-/// Adds that the way out of an event is the interface at the other end of a link of its AS, if it is.
+/// Adds that the way out of an event is the interface at the other end of a link of its AS, if it
+/// is.
 fn push_other_end(why: &mut Said, topology: &Topology, event: &Value) -> Result<(), AllocError> {
     let (Some(ia), Some(egress)) = (address_at(event, "ia"), interface_at(event, "egress")) else {
         return Ok(());

@@ -203,9 +203,9 @@ impl Telling {
 /// which nothing is written then.
 ///
 /// It takes the time and memory of `listen`, and for each line also time in proportion to its
-/// bytes, and for a refused line that names an AS to the number of links. What is found in the lines
-/// of one read of up to 8,192 bytes is held at a time; of earlier lines a few numbers are kept for
-/// each link, each AS and each packet that they changed.
+/// bytes, and for a refused line that names an AS to the number of links. What is found in the
+/// lines of one read of up to 8,192 bytes is held at a time; of earlier lines a few numbers are
+/// kept for each link, each AS and each packet that they changed.
 pub fn explain<S: Source, K: Sink>(
     alloc: Global,
     form: FindingForm,

@@ -45,7 +45,8 @@ fn add_headers_side(text: &mut String, packet: &[u8]) -> Result<(), AllocError>
     write!(text, "0 headers: a whole packet of {len} bytes: ")
 }
 
-/// The checks of a router with this view on the frame of a whole packet, up to the first that fails.
+/// The checks of a router with this view on the frame of a whole packet, up to the first that
+/// fails.
 fn frame_checks_text(
     alloc: Global,
     view: RouterView<'_>,

@@ -47,8 +47,8 @@ fn with_place(alloc: Global, lost: &[usize], place: usize) -> Result<Vec<usize>,
 }
 
 /// Whether the links at these places and at most `more` others can be chosen so that each walk
-/// crosses one of them. One of the others has to be of the first walk that crosses none of these: so
-/// it takes the time of the walks for each of h others of a walk of h links, `more` times over.
+/// crosses one of them. One of the others has to be of the first walk that crosses none of these:
+/// so it takes the time of the walks for each of h others of a walk of h links, `more` times over.
 fn can_cut(
     alloc: Global,
     walks: &[OpenWalk<'_>],

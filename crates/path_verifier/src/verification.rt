@@ -112,8 +112,8 @@ pub fn accept<'s, 'p, A: Allocator + Clone>(
 }
 
 impl Walk {
-    /// Makes it the walk of these pieces, if they are a path from `src` to `dst` that is live at the
-    /// second `now`; what it was before is gone in any case.
+    /// Makes it the walk of these pieces, if they are a path from `src` to `dst` that is live at
+    /// the second `now`; what it was before is gone in any case.
     ///
     /// The refusals are those of [`verify`] up to [`VerifyFault::Expired`], in their order.
     pub fn follow_path(

@@ -179,8 +179,8 @@ impl<A: Allocator + Clone> Reader<A> {
                 Ok(())
             }
             Token::Close => self.close(item),
-            // The text was judged before (`lawful`). The judge has to have this token, and reads the
-            // same tokens.
+            // The text was judged before (`lawful`). The judge has to have this token, and reads
+            // the same tokens.
             Token::Other => unreachable!(),
             Token::Hop(_) | Token::Open => {
                 let before = self.level.whole(&self.alloc, item)?;

@@ -52,8 +52,8 @@ pub record StaysOnSegment (old new : HeaderValue) : Type 0 where
   pub hops : new.hops ≡ old.hops
 
 -- the packet goes on in the next segment. The segment behind it keeps the accumulator of its
--- arrival, and lengths and hop fields stay. At its way out, before a link takes it, the packet is at
--- the first hop of the next segment, whose info field is as it came.
+-- arrival, and lengths and hop fields stay. At its way out, before a link takes it, the packet is
+-- at the first hop of the next segment, whose info field is as it came.
 pub record ChangesSegment (at : Situation) (new : HeaderValue) : Type 0 where
   pub curr_inf : new.curr_inf ≡ at.header.curr_inf + 1
   pub curr_hf : (at_the_way_out at).curr_hf ≡ at.header.curr_hf + 1

@@ -55,8 +55,8 @@ pub fn step(
 ///
 /// It answers as [`step`] does on the packet in one piece, and never [`Refusal::BadHeader`]. Only
 /// bytes of the path header change, and none after a refusal.
-// Inlined, as all of a step below it: where a library has steps on frames and on whole packets, each
-// has the code for itself, and none of them pays for a call that both share.
+// Inlined, as all of a step below it: where a library has steps on frames and on whole packets,
+// each has the code for itself, and none of them pays for a call that both share.
 #[inline(always)]
 pub fn step_in_parts(
     view: &RouterView<'_>,

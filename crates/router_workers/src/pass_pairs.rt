@@ -92,8 +92,8 @@ pub(crate) fn workers_of<'a, J: RunFacts>(
     Ok(worker_list)
 }
 
-/// The ways into all inboxes for the worker of this number, unless memory runs out. Worker 0 goes on
-/// with those by which the inboxes were filled; those of the others are split off.
+/// The ways into all inboxes for the worker of this number, unless memory runs out. Worker 0 goes
+/// on with those by which the inboxes were filled; those of the others are split off.
 fn ways_of<'a, T: Drop>(
     alloc: Global,
     first_senders: &mut Vec<Sender<'a, T>>,

@@ -70,8 +70,8 @@ impl Topology {
         Topology::from_object(alloc, &document.root())
     }
 
-    /// The network of a JSON object; or memory runs out, which it can only if `ases` and `links` are
-    /// lists.
+    /// The network of a JSON object; or memory runs out, which it can only if `ases` and `links`
+    /// are lists.
     #[tactic(auto, unfolding(crate::specs::Topology::network_of))]
     fn from_object(alloc: Global, object: &Node<'_, '_>) -> Result<Topology, ReadError>
         ensures value { Reads (λ n. n) result (network_of (node_data object.now)) }

@@ -2,8 +2,8 @@
 //!
 //! The status is 0 if something was shown, also if nobody reads it to its end, and 3 if that is an
 //! explanation that found something; 2 if the words are refused or ask for help; and 1 after any
-//! other fault, whose message goes to standard error. There it is also told which lines of a run were
-//! refused.
+//! other fault, whose message goes to standard error. There it is also told which lines of a run
+//! were refused.
 #![tactic(auto)]
 
 mod named;
@@ -60,7 +60,8 @@ fn tell_fault(rt: &HostRuntime, view: &View, fault: &ViewFault, replies: &Replie
     }
 }
 
-/// Tells what else there is to say of what was shown, if there is something, and returns the status.
+/// Tells what else there is to say of what was shown, if there is something, and returns the
+/// status.
 fn tell_remark(rt: &HostRuntime, remark: Option<Remark>) -> u8 {
     match remark {
         None => Status::Done.code(),

@@ -138,8 +138,8 @@ fn next_header_in(matches: &ArgMatches<'_>) -> Option<u8> {
     Some(next as u8)
 }
 
-/// What packets say besides, as the matches of a command with these options have it; `None` if a number
-/// can't be read. The fault tells of the first address that is none.
+/// What packets say besides, as the matches of a command with these options have it; `None` if a
+/// number can't be read. The fault tells of the first address that is none.
 pub(crate) fn info_in(
     alloc: Global,
     matches: &ArgMatches<'_>,

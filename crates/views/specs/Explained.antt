@@ -12,9 +12,9 @@ form_of true = Json
 form_of false = Text
 
 -- the lines of a source were answered and explained, up to the end, with whether something was
--- found, or to a topology that was refused, which is something; or another fault came. The first two
--- contents are what the source still had before and after it; the last two are what the sink held
--- before and after it.
+-- found, or to a topology that was refused, which is something; or another fault came. The first
+-- two contents are what the source still had before and after it; the last two are what the sink
+-- held before and after it.
 abbrev pub ExplainsAll : (form : FindingForm) (result : Result Bool RunFault)
     (before after held holds : Option (List ℕ)) → Type 0
 ExplainsAll form (Ok found) before after held holds =

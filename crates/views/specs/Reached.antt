@@ -26,8 +26,8 @@ Shows says (Err fault) before after told tells =
     Listens All (Err fault) before after told tells ⊎ ((fault ≡ Memory)
     × ((net : NetValue) × Listens All (Ok net) before after told tells))
 
--- a text of which this holds was written; or, before memory ran out or a write failed, one that is a
--- beginning. The contents are what the sink held before and after it.
+-- a text of which this holds was written; or, before memory ran out or a write failed, one that is
+-- a beginning. The contents are what the sink held before and after it.
 abbrev pub Writes : {A : Type 0} → (whole begun : (List ℕ → Type 0)) (result : Result A RunFault)
     (held holds : Option (List ℕ)) → Type 0
 Writes whole begun (Ok value) held holds =

@@ -47,8 +47,8 @@ report_fault network from to =
     if not (has_named network from && has_named network to) then Some (Topology UnknownAs)
     else if are_one from to then Some (Combination SameAs) else None
 
--- whether the network stores no segment, so that a report would say of each pair that it has no path;
--- for JSON that is said all the same
+-- whether the network stores no segment, so that a report would say of each pair that it has no
+-- path; for JSON that is said all the same
 abbrev pub is_bare : ReportOptionsValue → NetValue → Bool
 is_bare wanted net = not wanted.json && (length net.segments == 0)
 

@@ -1,5 +1,5 @@
--- The output of `scionet_view packet --packet`: a packet of a run, and what the next router makes of
--- it, as a frame or as a whole packet.
+-- The output of `scionet_view packet --packet`: a packet of a run, and what the next router makes
+-- of it, as a frame or as a whole packet.
 use Rattle.std.specs.Prelude.{ℕ, codes, List, [], ◌∷◌, ◌++◌, Option, Some, None, slice_get, Result, Ok, Err}
 use Rattle.std.specs.Fmt.{decimal}
 use Rattle.isd_as.specs.Address.{canonical}

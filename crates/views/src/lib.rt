@@ -3,8 +3,8 @@
 //! that they need; the events by which a topology is beaconed; a packet as it is on the wire, and a
 //! run as a capture; and why lines are refused.
 //!
-//! [`show`] reads a source and writes to a sink what a view of it has to tell. The packet, the lines
-//! of a network and the faults are those of `scionet`.
+//! [`show`] reads a source and writes to a sink what a view of it has to tell. The packet, the
+//! lines of a network and the faults are those of `scionet`.
 #![tactic(auto)]
 
 mod answer;

@@ -85,8 +85,8 @@ fn write_wanted<K: Sink>(
     path_report(alloc, net, &wanted, sink).map_err(run_fault)
 }
 
-/// Whether a report would say of each pair that it has no path, since the network stores no segment;
-/// for JSON that is said all the same.
+/// Whether a report would say of each pair that it has no path, since the network stores no
+/// segment; for JSON that is said all the same.
 fn is_bare(net: &Net, words: &ReportWords) -> bool
     ensures { result ≡ is_bare (wanted_by words.now) net.now }
 {

@@ -96,7 +96,8 @@ fn packet_state(alloc: Global, net: &Net, packet: Option<&Packet>) -> Result<Sai
     Ok(Ok(text))
 }
 
-/// What the next router makes of a whole packet in this place: as [`next_lines`] has it of a packet.
+/// What the next router makes of a whole packet in this place: as [`next_lines`] has it of a
+/// packet.
 fn whole_next_lines(
     alloc: Global,
     net: &Net,

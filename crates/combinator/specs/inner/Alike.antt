@@ -34,8 +34,8 @@ AreSameHops (hop ∷ next ∷ hops) (other ∷ []) = ⊥
 AreSameHops (hop ∷ next ∷ hops) (other ∷ second ∷ others) = (hop.ia ≡ other.ia) × (hop.egress ≡ other.egress)
     × (next.ingress ≡ second.ingress) × AreSameHops (next ∷ hops) (second ∷ others)
 
--- a walk that is at this hop, with these before it, goes on by the hops of a piece: it leaves as the
--- piece does, and passes the piece's later hops, whatever the last way out
+-- a walk that is at this hop, with these before it, goes on by the hops of a piece: it leaves as
+-- the piece does, and passes the piece's later hops, whatever the last way out
 abbrev pub GoesOn : (hops : List WalkHop) (here : WalkHop) (rest : List WalkHop) → Type 0
 GoesOn [] here rest = Unit {0}
 GoesOn (hop ∷ later) here rest = (here.egress ≡ hop.egress)

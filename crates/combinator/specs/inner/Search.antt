@@ -61,8 +61,8 @@ ComesBefore path front further = (later : List PieceValue) → All HasRange (fro
     → further ≤ length later
     → path_cmp path (path_with (front ++ later) (header_of (front ++ later))) ≡ Less
 
--- there are `limit` paths, and each of them comes before each path that begins with these pieces and
--- has at least so many more
+-- there are `limit` paths, and each of them comes before each path that begins with these pieces
+-- and has at least so many more
 unfoldable pub AreBefore : (limit : ℕ) (paths : List PathValue) (front : List PieceValue)
     (further : ℕ) → Type 0
 AreBefore limit paths front further = (length paths ≡ limit)
