@@ -127,16 +127,17 @@ fn gathered<'g, 'a, 's, 'p, A: Allocator + Clone>(
         limit,
     };
     let mut walks = Vec::new(alloc);
-    gathering.try_behind(&mut walks, &Front::Zero, ask.src, 3)?;
+    gathering.try_behind(&mut walks, &mut Walk::new(), &Front::Zero, ask.src, 3)?;
     Ok(walks)
 }
 
 impl<'g, 'a, 's, 'p, A: Allocator + Clone> Gathering<'g, 'a, 's, 'p, A> {
     /// Adds the walks of the paths that begin with pieces of these groups and go on, from the AS
-    /// `at`, with pieces of one to `depth` more.
+    /// `at`, with pieces of one to `depth` more. The room of a walk is for each of them in turn.
     fn try_behind(
         &self,
         walks: &mut Vec<Vec<WalkHop>>,
+        walk: &mut Walk,
         front: &Front<'g, 'a, 's>,
         at: IsdAs,
         depth: usize,
@@ -166,21 +167,22 @@ impl<'g, 'a, 's, 'p, A: Allocator + Clone> Gathering<'g, 'a, 's, 'p, A> {
             let longer = front.with(group);
             let end = group.ends();
             if end == ask.dst {
-                self.add_walk(walks, &longer)?;
+                self.add_walk(walks, walk, &longer)?;
                 continue;
             }
             if depth == 1 {
                 continue;
             }
-            self.try_behind(walks, &longer, end, depth - 1)?;
+            self.try_behind(walks, walk, &longer, end, depth - 1)?;
         }
         Ok(())
     }
 
-    /// Adds the walk of the paths of these groups, if they may be sent.
+    /// Adds the walk of the paths of these groups, if they may be sent, and makes a walk theirs.
     fn add_walk(
         &self,
         walks: &mut Vec<Vec<WalkHop>>,
+        walk: &mut Walk,
         front: &Front<'g, 'a, 's>,
     ) -> Result<(), AllocError>
         requires gathered { AreGathered self.now.ask.now self.now.limit (hops_in walks.old.items) }
@@ -199,8 +201,7 @@ impl<'g, 'a, 's, 'p, A: Allocator + Clone> Gathering<'g, 'a, 's, 'p, A> {
             return Ok(());
         }
         let found = Found::of(front.heads());
-        let mut walk = Walk::new();
-        if !self.ask.may_send(&mut walk, &found) {
+        if !self.ask.may_send(walk, &found) {
             return Ok(());
         }
         take_in(self.alloc, walks, walk.as_slice())

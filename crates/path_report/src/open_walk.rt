@@ -27,7 +27,7 @@ fn places_crossed(
     ensures { IfOk result
         (λ places. places.items ≡ places_crossed topology.now.links walk.now) }
 {
-    let mut places = Vec::new(alloc);
+    let mut places = Vec::with_capacity(alloc, walk.len())?;
     for hop in walk {
         if let Some(place) = topology.link_place(hop.ia, hop.egress) {
             places.push(place)?;

@@ -1,5 +1,5 @@
 pub mod Entries
-pub mod Doubled
+pub mod Once
 pub mod Ends
 pub mod Hops
 pub mod Headers

@@ -1,17 +1,16 @@
 #![tactic(auto, unfolding(crate::specs::Walk::hop_of, crate::specs::Walk::walk_of))]
 
-ghost use Rattle.std.specs.Prelude.{◌≡◌, ◌↔◌, ◌+◌, ◌<◌, ◌≤◌, [], ◌∷◌, ◌++◌, length, map, drop, slice_get, IsTrue, Some};
+ghost use Rattle.std.specs.Prelude.{◌≡◌, ◌↔◌, ◌+◌, ◌<◌, ◌≤◌, [], ◌∷◌, ◌++◌, length, drop, slice_get, IsTrue, Some};
 ghost use Rattle.std.specs.List.{AllByRecursion};
 ghost use Rattle.path_verifier.specs.PieceSlots.{pieces_in};
 ghost use Rattle.path_verifier.specs.Piece.{HasRange};
 ghost use Rattle.path_verifier.specs.Walk.{hop_of, hops_of, entered_by, left_by, with_meeting_hop, walk_with, walk_of};
 ghost use Rattle.path_verifier.specs.Header.{len_of, total_hops};
 ghost use Rattle.path_verifier.specs.Accepted.{NamesOnce};
+ghost use Rattle.path_verifier.specs.inner.Twice.{is_passed, names_twice};
 
 use crate::piece::Piece;
 use crate::pieces::{PieceSlots, Pieces};
-use arrayvec::ArrayVec;
-use doubles::has_double;
 use isd_as::{IfId, IsdAs};
 use path_header::MAX_HOPS;
 use path_segment::Entry;
@@ -209,23 +208,32 @@ impl Walk {
     }
 }
 
-/// Whether no two of these hops are of one AS.
-#[tactic(auto, using(crate::proofs::Doubled::once_without_double))]
+/// Whether no two of these hops are of one AS. They are few, so each is compared with all later
+/// ones.
+#[tactic(auto, using(crate::proofs::Once::once_if_not_twice))]
 pub(crate) fn names_once(hops: &[WalkHop]) -> bool
-    requires { length hops.now ≤ 64 }
     ensures { IsTrue result ↔ NamesOnce hops.now }
 {
-    !has_double(&mut numbers_of(hops))
+    !names_twice(hops)
 }
 
-/// The numbers of the ASes of these hops.
-fn numbers_of(hops: &[WalkHop]) -> ArrayVec<u128, MAX_HOPS>
-    requires { length hops.now ≤ 64 }
-    ensures { result.items ≡ map (λ hop. hop.ia) hops.now }
+/// Whether two of these hops are of one AS.
+fn names_twice(hops: &[WalkHop]) -> bool
+    ensures { result ≡ names_twice hops.now }
 {
-    let mut numbers = ArrayVec::new();
-    for hop in hops {
-        numbers.push(u128::from(hop.ia.number()));
+    let mut rest = hops;
+    while let Some((hop, later)) = rest.split_first() {
+        if is_passed(later, hop.ia) {
+            return true;
+        }
+        rest = later;
     }
-    numbers
+    false
+}
+
+/// Whether one of these hops is of this AS.
+fn is_passed(hops: &[WalkHop], ia: IsdAs) -> bool
+    ensures { result ≡ is_passed hops.now ia }
+{
+    hops.iter().any(|hop| hop.ia == ia)
 }

@@ -1,23 +1,12 @@
--- No AS stands in two hops of a walk where no number of theirs has a double.
-use Rattle.std.proofs.Common.{◌≡◌, ℕ, zero, suc, Bool, false, ◌||◌, ◌==◌, List, [], ◌∷◌, map, Some, refl, sym, ap, ap₂, ◌∙◌, inl, inr, arith}
+-- No two hops of a walk are of one AS where none is found twice.
+use Rattle.std.proofs.Common.{◌≡◌, ℕ, zero, suc, Bool, false, ◌==◌, List, [], ◌∷◌, Some, refl, sym, ap, ◌∙◌, inl, inr, arith}
 use Rattle.std.specs.Prelude.{◌↔◌, slice_get}
 use Rattle.std.specs.List.{list_any}
 use Rattle.std.proofs.lemmas.Bool.{cases_Bool, or_parts, eqb-true, eqb-false}
 use Rattle.std.proofs.lemmas.Option.{same_Some}
 use Rattle.policy_expr.specs.declared.hop.WalkHop.{WalkHop}
-use Rattle.doubles.specs.Doubles.{has_double}
-use Rattle.doubles.proofs.Named.{named_is}
 use Rattle.path_verifier.specs.Accepted.{NamesOnce}
-
--- an AS stands in two hops
-abbrev names_twice : List WalkHop → Bool
-names_twice [] = false
-names_twice (hop ∷ later) = list_any (λ other. other.ia == hop.ia) later || names_twice later
-
-doubles_are_twice : (hops : List WalkHop) → has_double (map (λ hop. hop.ia) hops) ≡ names_twice hops
-doubles_are_twice [] = refl
-doubles_are_twice (hop ∷ later) =
-    ap₂ (λ a b. a || b) (named_is (λ other. other.ia) hop.ia later) (doubles_are_twice later)
+use Rattle.path_verifier.specs.inner.Twice.{names_twice}
 
 none_at : (p : WalkHop → Bool) (hs : List WalkHop) → list_any p hs ≡ false → (k : ℕ) (h : WalkHop)
     → slice_get hs k ≡ Some h → p h ≡ false
@@ -60,9 +49,6 @@ once_from (x ∷ xs) once =
     none_from (λ o. o.ia == x.ia) xs (λ k e at. apart_test e.ia x.ia (λ same. (let one : suc k ≡ zero = once (suc k) zero e x at refl same in omega arith))) in
     rw here (once_from xs (λ j k d e at_j at_k same. (let one : suc j ≡ suc k = once (suc j) (suc k) d e at_j at_k same in omega arith)))
 
--- no AS stands in two hops exactly where no number of theirs has a double
-pub once_without_double : (hops : List WalkHop) → (has_double (map (λ hop. hop.ia) hops) ≡ false) ↔ NamesOnce hops
-once_without_double hops = (
-  λ none. once_of hops (sym (doubles_are_twice hops) ∙ none),
-  λ once. doubles_are_twice hops ∙ once_from hops once,
-)
+-- no two hops are of one AS exactly where none is found twice
+pub once_if_not_twice : (hops : List WalkHop) → (names_twice hops ≡ false) ↔ NamesOnce hops
+once_if_not_twice hops = (once_of hops, once_from hops)
