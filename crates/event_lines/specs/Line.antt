@@ -266,11 +266,12 @@ line_in bytes = do
   d ← document_in bytes
   said_by d
 
--- whether an object has the members of a form, if there is one, and a policy if it needs one
+-- whether an object has a policy, if it needs one
 abbrev pub has_policy : (policy : Bool) → Data → Bool
 has_policy false d = true
 has_policy true d = is_some (options_in d)
 
+-- whether an object has the policy and the members of a form, if there is one
 abbrev pub fits : Option LineForm → Data → Bool
 fits None d = false
 fits (Some form) d = has_policy form.policy d && has_members form.members d

@@ -1,6 +1,7 @@
 //! Requests for paths.
 
 ghost use Rattle.std.specs.Prelude.{◌≡◌, ◌<◌, slice_get, Ok, IfOk, OnOk};
+ghost use Rattle.std.specs.Arc.{arc_value};
 ghost use Rattle.std.specs.Option.{ok_or};
 ghost use Rattle.refusal.specs.Refusal.{Answers, Gives};
 ghost use Rattle.policy_expr.specs.Options.{options_at};
@@ -9,7 +10,7 @@ ghost use Rattle.network_core.specs.declared.fault.EventFault.TheVariants as fau
 ghost use Rattle.network_core.specs.inner.Doing.{AnswersTo, DoesAsk, KeepsAnswer};
 ghost use Rattle.network_core.specs.Step.{options_asked, rules_used};
 
-use crate::answer::{Answer, SharedAnswer};
+use crate::answer::Answer;
 use crate::fault::EventFault;
 use crate::limits::MAX_OBJECTS;
 use crate::net::{EventError, Net};
@@ -19,6 +20,7 @@ use isd_as::IsdAs;
 use policy_expr::{OptionText, Policy, PolicyOption};
 use refusal::OrMemory;
 use std::alloc::{AllocError, Global};
+use std::sync::Arc;
 
 impl Net {
     /// Answers a request for paths, and keeps the answer.
@@ -80,10 +82,10 @@ impl Net {
         dst: IsdAs,
         options: &[PolicyOption<Global>],
         limit: u32,
-    ) -> Result<SharedAnswer, EventError>
+    ) -> Result<Arc<Answer>, EventError>
         requires some { 0 < limit }
         requires ends { ends_at src dst ≡ Ok tt }
-        ensures { AnswersTo (λ one. one) self.now src dst options.now limit result }
+        ensures { AnswersTo (λ one. arc_value one) self.now src dst options.now limit result }
     {
         let set = self.store.segments_for(alloc, src, dst, self.moment)?;
         let paths = match combine(alloc, &set, src, dst, options, limit as usize) {
@@ -100,12 +102,12 @@ impl Net {
             paths,
             policy,
         };
-        Ok(SharedAnswer::new(alloc, answer)?)
+        Ok(Arc::new(alloc, answer)?)
     }
 
     /// Adds an answer to those that are kept.
-    fn keep_answer(&mut self, answer: SharedAnswer) -> Result<Reply, EventError>
-        ensures { KeepsAnswer answer self.old self.new result }
+    fn keep_answer(&mut self, answer: Arc<Answer>) -> Result<Reply, EventError>
+        ensures { KeepsAnswer (arc_value answer) self.old self.new result }
     {
         let number = self.answers.len();
         self.answers.push(answer)?;
@@ -113,8 +115,8 @@ impl Net {
     }
 
     /// The answer of this number.
-    pub(crate) fn answer_numbered(&self, number: u32) -> Result<&SharedAnswer, EventFault>
-        ensures { Gives (λ one. one.now) result
+    pub(crate) fn answer_numbered(&self, number: u32) -> Result<&Arc<Answer>, EventFault>
+        ensures { Gives (λ one. arc_value one.now) result
             (ok_or (slice_get self.now.answers number) faults.NoAnswer) }
     {
         match self.answers.get(number as usize) {

@@ -5,7 +5,7 @@ ghost use Rattle.network_core.specs.Event.{event_value};
 ghost use Rattle.network_core.specs.Step.{Step, TakesMemory};
 ghost use Rattle.network_core.specs.Value.{new_net};
 
-use crate::answer::SharedAnswer;
+use crate::answer::Answer;
 use crate::event::Event;
 use crate::fault::EventFault;
 use crate::packet::Packet;
@@ -18,6 +18,7 @@ use refusal::OrMemory;
 use scion_topology::Topology;
 use std::alloc::{AllocError, Global};
 use std::marker::Model;
+use std::sync::Arc;
 
 /// A network of one process: its topology, the current second, the beacons that were made in it,
 /// its path store, the answers that were given in it, and the packets that were sent.
@@ -27,11 +28,13 @@ pub struct Net {
     pub(crate) moment: u32,
     pub(crate) beacons: Vec<Beacon>,
     pub(crate) store: PathStore,
-    pub(crate) answers: Vec<SharedAnswer>,
+    pub(crate) answers: Vec<Arc<Answer>>,
     pub(crate) packets: Vec<Packet>,
 }
 
 impl Model for Net {
+    ghost use Rattle.std.specs.Prelude.{map};
+    ghost use Rattle.std.specs.Arc.{arc_value};
     ghost use Rattle.policy_expr.specs.Code.{policy_codes};
     ghost use Rattle.network_core.specs.Value.{NetValue};
 
@@ -44,7 +47,7 @@ impl Model for Net {
       moment = n.moment;
       beacons = n.beacons.items;
       segments = n.store;
-      answers = n.answers.items;
+      answers = map arc_value n.answers.items;
       packets = n.packets.items;
     } };
 }
@@ -102,10 +105,7 @@ impl Net {
     {
         match self.answers.get(number) {
             None => None,
-            Some(shared) => {
-                let answer = shared.answer();
-                Some(&answer.paths)
-            }
+            Some(answer) => Some(&answer.paths),
         }
     }
 

@@ -1,6 +1,7 @@
 //! Sending packets, and replying to delivered ones.
 
 ghost use Rattle.std.specs.Prelude.{◌≡◌, ◌≤◌, IfErr, IfOk, OnOk, Some, length, nat_le, slice_get};
+ghost use Rattle.std.specs.Arc.{arc_value};
 ghost use Rattle.refusal.specs.Refusal.{Gives, check};
 ghost use Rattle.path_verifier.specs.Accepted.{IsAccepted, IsRefused};
 ghost use Rattle.path_verifier.specs.declared.fault.VerifyFault.{VerifyFault};
@@ -11,7 +12,7 @@ ghost use Rattle.network_core.specs.Event.{BackOf, ByAnswer, ByWay, way_of};
 ghost use Rattle.network_core.specs.Value.{asked_at, way_on};
 ghost use Rattle.network_core.specs.Step.{header_back, packet_of, shipment_by};
 
-use crate::answer::{Answer, SharedAnswer};
+use crate::answer::Answer;
 use crate::event::Given;
 use crate::fault::EventFault;
 use crate::limits::{MAX_OBJECTS, MAX_PAYLOAD_LEN};
@@ -26,6 +27,7 @@ use path_verifier::{VerifiedPath, lend_all, verify};
 use policy_expr::Policy;
 use router_step::{destination_in, read_header, source_in};
 use std::alloc::{AllocError, Global};
+use std::sync::Arc;
 
 impl Net {
     /// Sends a packet by a path of an answer.
@@ -116,7 +118,7 @@ impl Net {
             (shipment_by self.now (ByAnswer ask path) payload.now) result }
     {
         let answer = self.answer_numbered(ask)?;
-        let one = answer.answer().path_numbered(path)?;
+        let one = answer.path_numbered(path)?;
         check_payload(payload)?;
         self.ready_on(alloc, answer, path, one, payload)
     }
@@ -125,17 +127,18 @@ impl Net {
     fn ready_on(
         &self,
         alloc: Global,
-        answer: &SharedAnswer,
+        answer: &Arc<Answer>,
         number: u32,
         path: &Path,
         payload: &[u8],
     ) -> Result<Packet, EventError>
-        requires there { slice_get answer.now.answer.paths number ≡ Some path.now }
+        requires there { slice_get (arc_value answer.now).answer.paths number ≡ Some path.now }
         requires few { length payload.now ≤ 1024 }
         ensures { Readies (λ p. p) self.now
-            (record { way = way_on answer.now path.now; payload = payload.now }) result }
+            (record { way = way_on (arc_value answer.now) path.now; payload = payload.now })
+            result }
     {
-        let router = self.first_router_on(answer.answer(), path)?;
+        let router = self.first_router_on(answer, path)?;
         let sent = Sent::by_answer(alloc, answer, number as usize, payload)?;
         Ok(packet_of(alloc, sent, router)?)
     }

@@ -1,6 +1,7 @@
 //! Shipments.
 
 ghost use Rattle.std.specs.Prelude.{◌≡◌, ◌≤◌, ℕ, IfOk, IsSome, length, slice_get};
+ghost use Rattle.std.specs.Arc.{arc_value};
 ghost use Rattle.path_verifier.specs.Accepted.{IsAccepted};
 ghost use Rattle.path_verifier.specs.Walk.{walk_of};
 ghost use Rattle.forwarding.specs.Journey.{first_out};
@@ -8,7 +9,7 @@ ghost use Rattle.network_core.specs.Event.{way_of};
 ghost use Rattle.network_core.specs.Sent.{way_numbered};
 ghost use Rattle.network_core.specs.Value.{asked_at};
 
-use crate::answer::{Answer, SharedAnswer};
+use crate::answer::Answer;
 use crate::event::Given;
 use combinator::{Path, PathList};
 use forwarding::first_out;
@@ -18,6 +19,7 @@ use path_verifier::{OwnedPiece, VerifiedPath};
 use policy_expr::Policy;
 use std::alloc::{AllocError, Global};
 use std::marker::Model;
+use std::sync::Arc;
 
 /// A shipment: a path with its ends, its header and its policy, and a payload.
 ///
@@ -27,13 +29,14 @@ use std::marker::Model;
 /// bytes.
 #[derive(Drop)]
 pub struct Sent {
-    answer: SharedAnswer,
+    answer: Arc<Answer>,
     path: usize,
     payload: Vec<u8>,
 }
 
 impl Model for Sent {
     ghost use Rattle.std.specs.Prelude.{ℕ, ◌≤◌, IsSome, length, slice_get};
+    ghost use Rattle.std.specs.Arc.{arc_value};
     ghost use Rattle.policy_expr.specs.Code.{policy_codes};
     ghost use Rattle.path_verifier.specs.Accepted.{IsAccepted};
     ghost use Rattle.network_core.specs.Value.{Shipment, asked_at};
@@ -43,31 +46,36 @@ impl Model for Sent {
 
     ghost coded = { Prim.hlevel policy_codes };
 
-    ghost view = { λ s. record { way = way_numbered s.answer s.path; payload = s.payload.items } };
+    ghost view = { λ s. record {
+      way = way_numbered (arc_value s.answer) s.path;
+      payload = s.payload.items;
+    } };
 
     ghost invariant = { λ s. ((moment : ℕ)
-        × IsAccepted (asked_at moment (way_numbered s.answer s.path)))
+        × IsAccepted (asked_at moment (way_numbered (arc_value s.answer) s.path)))
         × (length s.payload.items ≤ 1024)
-        × IsSome (slice_get s.answer.answer.paths s.path) };
+        × IsSome (slice_get (arc_value s.answer).answer.paths s.path) };
 }
 
 impl Sent {
     /// A shipment by the path of this number of an answer, unless memory runs out.
     pub(crate) fn by_answer(
         alloc: Global,
-        answer: &SharedAnswer,
+        answer: &Arc<Answer>,
         path: usize,
         payload: &[u8],
     ) -> Result<Sent, AllocError>
-        requires there { IsSome (slice_get answer.now.answer.paths path) }
+        requires there { IsSome (slice_get (arc_value answer.now).answer.paths path) }
         requires accepted { (moment : ℕ)
-            × IsAccepted (asked_at moment (way_numbered answer.now path)) }
+            × IsAccepted (asked_at moment (way_numbered (arc_value answer.now) path)) }
         requires few { length payload.now ≤ 1024 }
-        ensures { IfOk result (λ sent. sent
-            ≡ record { way = way_numbered answer.now path; payload = payload.now }) }
+        ensures { IfOk result (λ sent. sent ≡ record {
+          way = way_numbered (arc_value answer.now) path;
+          payload = payload.now;
+        }) }
     {
         Ok(Sent {
-            answer: answer.share()?,
+            answer: Arc::try_clone(answer)?,
             path,
             payload: Vec::from_slice(alloc, payload)?,
         })
@@ -95,7 +103,7 @@ impl Sent {
             policy: way.policy.clone_in(alloc)?,
         };
         Ok(Sent {
-            answer: SharedAnswer::new(alloc, answer)?,
+            answer: Arc::new(alloc, answer)?,
             path: 0,
             payload: Vec::from_slice(alloc, payload)?,
         })
@@ -105,14 +113,14 @@ impl Sent {
     pub fn source(&self) -> IsdAs
         ensures { result ≡ self.now.way.source }
     {
-        self.answer.answer().source
+        self.answer.source
     }
 
     /// The destination AS.
     pub fn destination(&self) -> IsdAs
         ensures { result ≡ self.now.way.destination }
     {
-        self.answer.answer().destination
+        self.answer.destination
     }
 
     /// Its path in the answer.
@@ -120,7 +128,7 @@ impl Sent {
         ensures pieces { result.now.pieces ≡ self.now.way.pieces }
         ensures header { result.now.header ≡ self.now.way.header }
     {
-        self.answer.answer().paths.get(self.path).unwrap()
+        self.answer.paths.get(self.path).unwrap()
     }
 
     /// The pieces of its path, in order of travel.
@@ -141,7 +149,7 @@ impl Sent {
     pub fn policy(&self) -> &Policy<Global>
         ensures { result.now ≡ self.now.way.rules }
     {
-        &self.answer.answer().policy
+        &self.answer.policy
     }
 
     /// Its payload.
