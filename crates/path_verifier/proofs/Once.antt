@@ -1,12 +1,21 @@
 -- No two hops of a walk are of one AS where none is found twice.
-use Rattle.std.proofs.Common.{◌≡◌, ℕ, zero, suc, Bool, false, ◌==◌, List, [], ◌∷◌, Some, refl, sym, ap, ◌∙◌, inl, inr, arith}
+use Rattle.std.proofs.Common.{◌≡◌, ℕ, zero, suc, Bool, false, ◌||◌, ◌==◌, List, [], ◌∷◌, map, Some, refl, sym, ap, ap₂, ◌∙◌, inl, inr, arith}
 use Rattle.std.specs.Prelude.{◌↔◌, slice_get}
 use Rattle.std.specs.List.{list_any}
 use Rattle.std.proofs.lemmas.Bool.{cases_Bool, or_parts, eqb-true, eqb-false}
 use Rattle.std.proofs.lemmas.Option.{same_Some}
 use Rattle.policy_expr.specs.declared.hop.WalkHop.{WalkHop}
+use Rattle.doubles.specs.Doubles.{has_double}
+use Rattle.doubles.proofs.Named.{named_is}
 use Rattle.path_verifier.specs.Accepted.{NamesOnce}
 use Rattle.path_verifier.specs.inner.Twice.{names_twice}
+
+-- the numbers of hops have a double exactly where two hops are of one AS
+pub doubles_are_twice : (hops : List WalkHop)
+    → has_double (map (λ hop. hop.ia) hops) ≡ names_twice hops
+doubles_are_twice [] = refl
+doubles_are_twice (hop ∷ later) =
+    ap₂ (λ a b. a || b) (named_is (λ other. other.ia) hop.ia later) (doubles_are_twice later)
 
 none_at : (p : WalkHop → Bool) (hs : List WalkHop) → list_any p hs ≡ false → (k : ℕ) (h : WalkHop)
     → slice_get hs k ≡ Some h → p h ≡ false

@@ -1,6 +1,6 @@
 #![tactic(auto, unfolding(crate::specs::Walk::hop_of, crate::specs::Walk::walk_of))]
 
-ghost use Rattle.std.specs.Prelude.{◌≡◌, ◌↔◌, ◌+◌, ◌<◌, ◌≤◌, [], ◌∷◌, ◌++◌, length, drop, slice_get, IsTrue, Some};
+ghost use Rattle.std.specs.Prelude.{◌≡◌, ◌↔◌, ◌+◌, ◌<◌, ◌≤◌, [], ◌∷◌, ◌++◌, length, map, drop, slice_get, IsTrue, Some};
 ghost use Rattle.std.specs.List.{AllByRecursion};
 ghost use Rattle.path_verifier.specs.PieceSlots.{pieces_in};
 ghost use Rattle.path_verifier.specs.Piece.{HasRange};
@@ -11,11 +11,16 @@ ghost use Rattle.path_verifier.specs.inner.Twice.{is_passed, names_twice};
 
 use crate::piece::Piece;
 use crate::pieces::{PieceSlots, Pieces};
+use arrayvec::ArrayVec;
+use doubles::has_double;
 use isd_as::{IfId, IsdAs};
 use path_header::MAX_HOPS;
 use path_segment::Entry;
 use policy_expr::WalkHop;
 use std::marker::Model;
+
+/// Hops that are compared with each other, which takes less than sorting so few.
+const FEW: usize = 24;
 
 /// The walk of a path: its ASes in order of travel, at most 64.
 #[derive(Debug, Drop)]
@@ -208,17 +213,30 @@ impl Walk {
     }
 }
 
-/// Whether no two of these hops are of one AS. They are few, so each is compared with all later
-/// ones.
+/// Whether no two of these hops are of one AS.
 #[tactic(auto, using(crate::proofs::Once::once_if_not_twice))]
 pub(crate) fn names_once(hops: &[WalkHop]) -> bool
+    requires { length hops.now ≤ 64 }
     ensures { IsTrue result ↔ NamesOnce hops.now }
 {
     !names_twice(hops)
 }
 
-/// Whether two of these hops are of one AS.
+/// Whether two of these hops are of one AS. A few are compared with each other; of more the numbers
+/// are sorted.
+#[tactic(auto, using(crate::proofs::Once::doubles_are_twice))]
 fn names_twice(hops: &[WalkHop]) -> bool
+    requires { length hops.now ≤ 64 }
+    ensures { result ≡ names_twice hops.now }
+{
+    if hops.len() <= FEW {
+        return has_pair_of_one_as(hops);
+    }
+    has_double(&mut numbers_of(hops))
+}
+
+/// Whether a hop is of the AS of a later one, looked for from each hop.
+fn has_pair_of_one_as(hops: &[WalkHop]) -> bool
     ensures { result ≡ names_twice hops.now }
 {
     let mut rest = hops;
@@ -236,4 +254,16 @@ fn is_passed(hops: &[WalkHop], ia: IsdAs) -> bool
     ensures { result ≡ is_passed hops.now ia }
 {
     hops.iter().any(|hop| hop.ia == ia)
+}
+
+/// The numbers of the ASes of these hops.
+fn numbers_of(hops: &[WalkHop]) -> ArrayVec<u128, MAX_HOPS>
+    requires { length hops.now ≤ 64 }
+    ensures { result.items ≡ map (λ hop. hop.ia) hops.now }
+{
+    let mut numbers = ArrayVec::new();
+    for hop in hops {
+        numbers.push(u128::from(hop.ia.number()));
+    }
+    numbers
 }
