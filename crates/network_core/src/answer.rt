@@ -10,8 +10,8 @@ use policy_expr::Policy;
 use std::alloc::Global;
 use std::marker::Model;
 
-/// A kept answer: the ends of its request, its paths, and the policy of the used option. The network
-/// shares it with each packet that was sent by one of its paths.
+/// A kept answer: the ends of its request, its paths, and the policy of the used option. The
+/// network shares it with each packet that was sent by one of its paths.
 #[derive(Drop)]
 pub(crate) struct Answer {
     pub(crate) source: IsdAs,
