@@ -1,10 +1,11 @@
 -- What replies tell of refusals.
 use Rattle.std.proofs.Common.{◌≡◌, ℕ, ◌||◌, ◌==◌, not, codes, Bool, true, false, List, [], ◌∷◌, ◌++◌, Option, Some, None, Result, Ok, Err, OnOk, refl, sym, ap, ◌∙◌, subst, inl, inr}
+use Rattle.std.specs.Prelude.{IfSome}
 use Rattle.std.specs.Fmt.{decimal, digits}
 use Rattle.std.specs.List.{list_any}
 use Rattle.std.proofs.lemmas.List.Folds.{list_any-append}
 use Rattle.isd_as.specs.Address.{canonical, canonical_as, dash, isd_of, as_number_of}
-use Rattle.refusal.specs.Fault.{code_text}
+use Rattle.refusal.specs.Fault.{code_text, is_word}
 use Rattle.scion_topology.specs.declared.fault.TopologyFault.{TopologyFault}
 use Rattle.scion_topology.specs.Fault as topology
 use Rattle.path_header.specs.declared.fault.HeaderFault.TheVariants as headers
@@ -21,23 +22,30 @@ use Rattle.network_core.specs.declared.fault.EventFault.{EventFault}
 use Rattle.network_core.specs.declared.fault.EventFault.TheVariants.{NoPacket}
 use Rattle.network_core.specs.declared.reply.Reply.{Reply}
 use Rattle.network_core.specs.declared.reply.Reply.TheVariants.{Done, Begun, Registered, Swept, Answered, Sent, Turned, Refused}
+use Rattle.network_core.specs.Fault as events
 use Rattle.network_core.specs.Value.{NetValue, PacketValue}
 use Rattle.event_lines.specs.Answers.{begun_text, refused_text}
 use Rattle.event_lines.specs.Text.{bad_line, fault_text, outcome_text, packet_text, passed_text, place_text, reply_text, turn_text}
 use Rattle.event_lines.specs.Refusals.{BeginsWith, Tells, bad_line_refusal, hyphen, is_refusal, is_refused_turn, refusal_of, refusal_shown, refusal_text}
 
-pub fault_tells : (fault : EventFault) → Tells (fault_text fault) (refusal_of (Refused fault))
-fault_tells fault = (refl, inl refl)
+-- a refusal, if there is one, has a word for its name
+abbrev pub HasName : Option (ℕ × List ℕ) → Type 0
+HasName refusal = IfSome refusal (λ coded. is_word coded.1 ≡ true)
+
+pub fault_tells : (fault : EventFault) → is_word (events.code_and_name fault).1 ≡ true
+    → Tells (fault_text fault) (refusal_of (Refused fault))
+fault_tells fault word = (refl, (word, inl refl))
 
 pub bad_line_tells : Tells bad_line bad_line_refusal
 unfolding digits
-bad_line_tells = (refl, inl refl)
+bad_line_tells = (refl, (refl, inl refl))
 
 pub begun_tells : Tells begun_text None
 begun_tells = refl
 
-pub topology_tells : (fault : TopologyFault) → Tells (refused_text fault) (Some (topology.code_and_name fault))
-topology_tells fault = (refl, inl refl)
+pub topology_tells : (fault : TopologyFault) → is_word (topology.code_and_name fault).1 ≡ true
+    → Tells (refused_text fault) (Some (topology.code_and_name fault))
+topology_tells fault word = (refl, (word, inl refl))
 
 -- no refusal of a router has a hyphen
 no_hyphen : (refusal : Refusal) → is_refused_turn (turn_text (turns.Refused refusal)) ≡ true
@@ -80,18 +88,19 @@ outcome_tells (ToLink interface) = refl
 outcome_tells (ToRouter router) = refl
 outcome_tells Deliver = refl
 
-pub reply_tells : (net : NetValue) (reply : Reply) → Tells (reply_text net reply) (refusal_of reply)
-reply_tells net Done = refl
-reply_tells net (Begun beacon) = refl
-reply_tells net (Registered true) = refl
-reply_tells net (Registered false) = refl
-reply_tells net (Swept count) = refl
-reply_tells net (Answered number) = refl
-reply_tells net (Sent packet) = refl
-reply_tells net (Turned (turns.Went outcome)) = outcome_tells outcome
-reply_tells net (Turned (turns.Refused refusal)) = (no_hyphen refusal, begins_with refusal)
-reply_tells net (Turned turns.Still) = refl
-reply_tells net (Refused fault) = fault_tells fault
+pub reply_tells : (net : NetValue) (reply : Reply) → HasName (refusal_of reply)
+    → Tells (reply_text net reply) (refusal_of reply)
+reply_tells net Done named = refl
+reply_tells net (Begun beacon) named = refl
+reply_tells net (Registered true) named = refl
+reply_tells net (Registered false) named = refl
+reply_tells net (Swept count) named = refl
+reply_tells net (Answered number) named = refl
+reply_tells net (Sent packet) named = refl
+reply_tells net (Turned (turns.Went outcome)) named = outcome_tells outcome
+reply_tells net (Turned (turns.Refused refusal)) named = (no_hyphen refusal, (named, begins_with refusal))
+reply_tells net (Turned turns.Still) named = refl
+reply_tells net (Refused fault) named = fault_tells fault named
 
 -- ---- a packet that is shown
 
@@ -125,7 +134,7 @@ place_tells (places.Refused ia router refusal) behind_it =
     (behind (codes "refused ") (canonical ia ++ rest) (in_front (canonical ia) rest (address_has_hyphen ia))))
 
 pub shown_tells : (packet : Option PacketValue) → Tells (packet_text packet) (refusal_shown packet)
-shown_tells None = fault_tells NoPacket
+shown_tells None = fault_tells NoPacket refl
 shown_tells (Some one) = place_tells one.packet.place (passed_text one.packet.passed)
 
 -- ---- in what was written

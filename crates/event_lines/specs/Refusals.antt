@@ -3,7 +3,7 @@
 use Rattle.std.specs.Prelude.{◌≡◌, ◌⊎◌, ℕ, ◌||◌, ◌&&◌, ◌==◌, if◌then◌else◌, not, codes, Bool, true, false, List, ◌++◌, nat_eq, Option, Some, None, option_map}
 use denote.Ref.{Bor}
 use Rattle.std.specs.List.{after_first, list_any, starts_with}
-use Rattle.refusal.specs.Fault.{code_text}
+use Rattle.refusal.specs.Fault.{code_text, is_space, is_word}
 use Rattle.router_step.specs.Fault as router
 use Rattle.forwarding.specs.declared.reply.TurnReply.TheVariants as turns
 use Rattle.network_core.specs.declared.fault.EventFault.TheVariants.{NoPacket}
@@ -30,26 +30,24 @@ is_refusal reply =
     starts_with nat_eq reply (codes "no ")
     || (starts_with nat_eq reply (codes "topology no ") || is_refused_turn reply)
 
-abbrev pub is_blank : ℕ → Bool
-is_blank byte = byte == 32
-
 -- the number and the name of the refusal in a reply, and what stands behind them: all behind the
 -- first word, or behind two if the first is `topology`
 abbrev pub refusal_text : (reply : List ℕ) → List ℕ
 refusal_text reply =
     if starts_with nat_eq reply (codes "topology ")
-    then after_first is_blank (after_first is_blank reply)
-    else after_first is_blank reply
+    then after_first is_space (after_first is_space reply)
+    else after_first is_space reply
 
 -- the text is a number and a name, and may go on behind a blank
 abbrev pub BeginsWith : (text : List ℕ) (coded : ℕ × List ℕ) → Type 0
 BeginsWith text coded = (text ≡ code_text coded)
     ⊎ ((more : List ℕ) × (text ≡ code_text coded ++ (codes " " ++ more)))
 
--- the reply tells the refusal of this number and name, or none
+-- the reply tells the refusal of this number and name, which is a word, or none
 abbrev pub Tells : (reply : List ℕ) → Option (ℕ × List ℕ) → Type 0
 Tells reply None = is_refusal reply ≡ false
-Tells reply (Some coded) = (is_refusal reply ≡ true) × BeginsWith (refusal_text reply) coded
+Tells reply (Some coded) = (is_refusal reply ≡ true)
+    × ((is_word coded.1 ≡ true) × BeginsWith (refusal_text reply) coded)
 
 -- ---- of a value
 

@@ -3,8 +3,9 @@
 //! A reply is written behind a text that is kept from line to line, so that it needs no memory of
 //! its own once that text has room.
 
-ghost use Rattle.std.specs.Prelude.{◌≡◌, ◌++◌, IfOk, None, OnOk, Some, flat_map, option_map};
+ghost use Rattle.std.specs.Prelude.{◌≡◌, ◌++◌, IfOk, IfSome, None, OnOk, Some, flat_map, option_map, true};
 ghost use Rattle.std.specs.String.{string_bytes};
+ghost use Rattle.refusal.specs.Fault.{is_word};
 ghost use Rattle.network_core.specs.Fault.{code_and_name};
 ghost use Rattle.event_lines.specs.Refusals.{bad_line_refusal, coded, refusal_of, refusal_shown};
 ghost use Rattle.event_lines.specs.inner.Seen.{IsBlank};
@@ -119,6 +120,7 @@ fn push_turn(reply: &mut LineReply, turned: TurnReply) -> Result<(), AllocError>
     ensures added { OnOk result
         (string_bytes reply.new.text ≡ string_bytes reply.old.text ++ turn_text turned) }
     ensures refusal { OnOk result (coded reply.new.refusal ≡ refusal_of (Reply.Turned turned)) }
+    ensures named { IfSome (refusal_of (Reply.Turned turned)) (λ one. is_word one.1 ≡ true) }
 {
     match turned {
         TurnReply::Went(outcome) => push_outcome(&mut reply.text, outcome),
@@ -136,6 +138,7 @@ fn push_fault(reply: &mut LineReply, fault: EventFault) -> Result<(), AllocError
     ensures added { OnOk result
         (string_bytes reply.new.text ≡ string_bytes reply.old.text ++ fault_text fault) }
     ensures refusal { OnOk result (coded reply.new.refusal ≡ Some (code_and_name fault)) }
+    ensures named { is_word (code_and_name fault).1 ≡ true }
 {
     let (code, name) = fault.code_and_name();
     reply.refusal = Some((code, name));
@@ -194,6 +197,7 @@ pub(crate) fn push_reply(
     ensures added { OnOk result (string_bytes reply.new.text
         ≡ string_bytes reply.old.text ++ reply_text net.now answered) }
     ensures refusal { OnOk result (coded reply.new.refusal ≡ refusal_of answered) }
+    ensures named { IfSome (refusal_of answered) (λ one. is_word one.1 ≡ true) }
 {
     let text = &mut reply.text;
     match answered {

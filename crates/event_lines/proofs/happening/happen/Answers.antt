@@ -15,7 +15,7 @@ returns-clause-refusal c =
     let answered = c.match-answered.answered in
     tells_as c.push_reply.result (string_bytes before.text) (string_bytes after.text)
     (reply_text c.step.new.self answered) (coded after.refusal) (refusal_of answered) c.requires.0
-    (reply_tells c.step.new.self answered) c.push_reply.ensures.added c.push_reply.ensures.refusal
+    (reply_tells c.step.new.self answered c.push_reply.ensures.named) c.push_reply.ensures.added c.push_reply.ensures.refusal
 
 pub returns-clause-told : goal.returns-clause-told
 returns-clause-told c =
