@@ -224,6 +224,7 @@ pub(crate) fn names_once(hops: &[WalkHop]) -> bool
 
 /// Whether two of these hops are of one AS. A few are compared with each other; of more the numbers
 /// are sorted.
+#[inline(always)]
 #[tactic(auto, using(crate::proofs::Once::doubles_are_twice))]
 fn names_twice(hops: &[WalkHop]) -> bool
     requires { length hops.now ≤ 64 }
@@ -257,6 +258,7 @@ fn is_passed(hops: &[WalkHop], ia: IsdAs) -> bool
 }
 
 /// The numbers of the ASes of these hops.
+#[inline(always)]
 fn numbers_of(hops: &[WalkHop]) -> ArrayVec<u128, MAX_HOPS>
     requires { length hops.now ≤ 64 }
     ensures { result.items ≡ map (λ hop. hop.ia) hops.now }
