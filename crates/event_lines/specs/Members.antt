@@ -1,6 +1,7 @@
 -- Members of JSON objects, each with the form of its value; and those of a policy, of a policy
 -- option, and of a topology's objects.
-use Rattle.std.specs.Prelude.{ℕ, suc, ◌&&◌, ◌||◌, nat_le, not, Bool, true, false, if◌then◌else◌, codes, List, [], ◌∷◌, length, Option, Some, None, is_some, is_ok, option_and_then, Result, Ok, Err}
+use Rattle.std.specs.Prelude.{ℕ, suc, ◌&&◌, ◌||◌, nat_le, not, Bool, true, false, if◌then◌else◌, codes, List, [], ◌∷◌, ◌++◌, length, Option, Some, None, is_some, is_ok, option_and_then, Result, Ok, Err}
+use Rattle.std.specs.Fmt.{decimal}
 use Rattle.std.specs.Option.{is_none}
 use Rattle.std.specs.Str.{bytes_eq}
 use Rattle.serde_json.specs.Data.{Data, no_items, item}
@@ -66,6 +67,24 @@ has_form LinkKind d =
 has_form Text d = is_some (as_str d)
 has_form Texts d = are_texts (as_array d)
 has_form Absent d = false
+
+-- how a form is told
+abbrev pub form_text : MemberForm → List ℕ
+form_text Address = codes "an address such as \"1-ff00:0:110\" or \"1-64512\""
+form_text AsAddress =
+    codes "an address such as \"1-ff00:0:110\", without a 0 for ISD or AS"
+form_text Items = codes "a list"
+form_text Object = codes "an object"
+form_text Truth = codes "true or false"
+form_text (Whole low high) =
+    codes "a whole number from " ++ (decimal low ++ (codes " to " ++ decimal high))
+form_text Limit = codes "a whole number from 1 to 64"
+form_text Key = codes "an even number of hexadecimal digits for 1 to 64 bytes"
+form_text Bytes = codes "an even number of hexadecimal digits"
+form_text LinkKind = codes "\"core\" or \"child\""
+form_text Text = codes "a text"
+form_text Texts = codes "a list of texts"
+form_text Absent = codes "none beside options"
 
 -- ---- members
 

@@ -10,7 +10,7 @@ ghost use Rattle.serde_json.specs.Data.{Data};
 ghost use Rattle.serde_json.specs.Find.{as_array, as_number, as_str, as_u64};
 ghost use Rattle.serde_json.specs.View.{view};
 ghost use Rattle.event_lines.specs.declared.members.MemberForm.TheVariants.{Text};
-ghost use Rattle.event_lines.specs.Members.{are_texts, as_members, end_members, first_misfit, has_form, has_member, is_plain, link_members, member_value, named, number_within, option_members, policy_members, topology_members};
+ghost use Rattle.event_lines.specs.Members.{are_texts, as_members, end_members, first_misfit, form_text, has_form, has_member, is_plain, link_members, member_value, named, number_within, option_members, policy_members, topology_members};
 
 pub use crate::line::{line_words, members_of};
 use crate::policy_misfit::first_no_text;
@@ -293,26 +293,29 @@ pub fn first_misfit<'m>(object: &Value, members: &'m [Member]) -> Option<&'m Mem
 }
 
 impl fmt::Display for MemberForm {
+    ghost output = { λ form. Some (form_text form) };
+
     fn fmt<W: fmt::Write>(&self, f: &mut fmt::Formatter<W>) -> fmt::Result {
-        let words = match self {
-            MemberForm::Address => "an address such as \"1-ff00:0:110\" or \"1-64512\"",
-            MemberForm::AsAddress => {
-                "an address such as \"1-ff00:0:110\", without a 0 for ISD or AS"
+        match self {
+            MemberForm::Address => {
+                f.write_str("an address such as \"1-ff00:0:110\" or \"1-64512\"")
             }
-            MemberForm::Items => "a list",
-            MemberForm::Object => "an object",
-            MemberForm::Truth => "true or false",
-            MemberForm::Whole(low, high) => {
-                return write!(f, "a whole number from {low} to {high}");
+            MemberForm::AsAddress => f.write_str(
+                "an address such as \"1-ff00:0:110\", without a 0 for ISD or AS",
+            ),
+            MemberForm::Items => f.write_str("a list"),
+            MemberForm::Object => f.write_str("an object"),
+            MemberForm::Truth => f.write_str("true or false"),
+            MemberForm::Whole(low, high) => write!(f, "a whole number from {low} to {high}"),
+            MemberForm::Limit => f.write_str("a whole number from 1 to 64"),
+            MemberForm::Key => {
+                f.write_str("an even number of hexadecimal digits for 1 to 64 bytes")
             }
-            MemberForm::Limit => "a whole number from 1 to 64",
-            MemberForm::Key => "an even number of hexadecimal digits for 1 to 64 bytes",
-            MemberForm::Bytes => "an even number of hexadecimal digits",
-            MemberForm::LinkKind => "\"core\" or \"child\"",
-            MemberForm::Text => "a text",
-            MemberForm::Texts => "a list of texts",
-            MemberForm::Absent => "none beside options",
-        };
-        f.write_str(words)
+            MemberForm::Bytes => f.write_str("an even number of hexadecimal digits"),
+            MemberForm::LinkKind => f.write_str("\"core\" or \"child\""),
+            MemberForm::Text => f.write_str("a text"),
+            MemberForm::Texts => f.write_str("a list of texts"),
+            MemberForm::Absent => f.write_str("none beside options"),
+        }
     }
 }
