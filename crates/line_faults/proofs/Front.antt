@@ -23,13 +23,16 @@ use Rattle.line_faults.specs.inner.Telling.{Place, Tally, TellingValue, TellsByt
 
 -- ---- what is found in lines behind lines
 
-said_append : (first : ℕ) (replies others : List (List ℕ)) (findings more : List FindingValue)
-    → AreTold first replies findings → AreTold (first + length replies) others more
-    → AreTold first (replies ++ others) (findings ++ more)
-said_append first [] others findings more is then =
+said_append : (first : ℕ) (lines then replies others : List (List ℕ)) (findings more : List FindingValue)
+    → AreTold first lines replies findings → AreTold (first + length replies) then others more
+    → AreTold first (lines ++ then) (replies ++ others) (findings ++ more)
+said_append first [] then [] others findings more is behind =
     let same : first + length {A = List ℕ} [] ≡ first = omega arith in
-    subst (λ fs. AreTold first others (fs ++ more)) (sym is) (subst (λ n. AreTold n others more) same then)
-said_append first (reply ∷ replies) others findings more is then =
+    subst (λ fs. AreTold first then others (fs ++ more)) (sym is)
+    (subst (λ n. AreTold n then others more) same behind)
+said_append first [] then (reply ∷ replies) others findings more is behind = absurd is
+said_append first (line ∷ lines) then [] others findings more is behind = absurd is
+said_append first (line ∷ lines) then (reply ∷ replies) others findings more is behind =
     let (told, later, (one, (rest, whole))) = is in
     let same : first + length (reply ∷ replies) ≡ (first + 1) + length replies = omega arith in (
       told,
@@ -37,16 +40,17 @@ said_append first (reply ∷ replies) others findings more is then =
       (
         one,
         (
-          said_append (first + 1) replies others later more rest (subst (λ n. AreTold n others more) same then),
+          said_append (first + 1) lines then replies others later more rest
+              (subst (λ n. AreTold n then others more) same behind),
           ap (λ fs. fs ++ more) whole ∙ append_assoc told later more,
         ),
       ),
     )
 
 -- what is found in one line
-said_one : (number : ℕ) (reply : List ℕ) (findings : List FindingValue) → IsTold number reply findings
-    → AreTold number (reply ∷ []) findings
-said_one number reply findings told = (findings, [], (told, (refl, sym (append-nil findings))))
+said_one : (number : ℕ) (line reply : List ℕ) (findings : List FindingValue) → IsTold number line reply findings
+    → AreTold number (line ∷ []) (reply ∷ []) findings
+said_one number line reply findings told = (findings, [], (told, (refl, sym (append-nil findings))))
 
 -- ---- what was told
 
@@ -102,8 +106,8 @@ lines_append first then old middle new held mid holds one other =
       replies = one.replies ++ other.replies;
       findings = one.findings ++ other.findings;
       replied = told_append All old.stage middle.stage new.stage first then one.replies other.replies one.replied other.replied;
-      told = said_append (old.tally.number + 1) one.replies other.replies one.findings other.findings one.told
-          (subst (λ n. AreTold n other.replies other.findings) same other.told);
+      told = said_append (old.tally.number + 1) first then one.replies other.replies one.findings other.findings one.told
+          (subst (λ n. AreTold n then other.replies other.findings) same other.told);
       kept = subst (Appends held holds) (joined_texts form one.findings other.findings)
           (Appends-trans held mid holds (all_written form one.findings) (all_written form other.findings) one.kept more);
       count = other.count ∙ ap (λ (t : Tally). with_told t (length other.replies) other.findings) one.count
@@ -129,8 +133,8 @@ lines_some first then old middle held mid holds one other =
       findings = one.findings ++ other.findings;
       most = length before + other.most;
       replied = told_append All old.stage middle.stage other.stage first then one.replies other.replies one.replied other.replied;
-      told = said_append (old.tally.number + 1) one.replies other.replies one.findings other.findings one.told
-          (subst (λ n. AreTold n other.replies other.findings) same other.told);
+      told = said_append (old.tally.number + 1) first then one.replies other.replies one.findings other.findings one.told
+          (subst (λ n. AreTold n then other.replies other.findings) same other.told);
       kept = subst (λ t. Appends held holds (take (length before + other.most) t))
           (joined_texts form one.findings other.findings)
           (subst (Appends held holds) (take_behind before behind other.most)
@@ -151,14 +155,14 @@ lines_kept lines old new held mid holds told kept = record {
 -- ---- one line
 
 pub line_told : (line reply : List ℕ) (old new : Place) (held holds : Option (List ℕ))
-    → RepliesTo All old.stage line reply new.stage → TellsReply (Ok tt) reply old.tally new.tally held holds
+    → RepliesTo All old.stage line reply new.stage → TellsReply (Ok tt) line reply old.tally new.tally held holds
     → TellsLine (Ok tt) line old new held holds
 line_told line reply old new held holds says tells =
     let (findings, (told, (kept, count))) = tells in record {
       replies = reply ∷ [];
       findings = findings;
       replied = told_one All old.stage new.stage line reply says;
-      told = said_one (old.tally.number + 1) reply findings told;
+      told = said_one (old.tally.number + 1) line reply findings told;
       kept = kept;
       count = count;
     }
@@ -166,7 +170,7 @@ line_told line reply old new held holds says tells =
 -- a line was answered, and what there is to say of it was not added
 pub line_untold : (fault : RunFault) (line reply : List ℕ) (old : Place) (stage : Stage) (tally : Tally) (new : Place)
     (held holds : Option (List ℕ))
-    → RepliesTo All old.stage line reply stage → TellsReply (Err fault) reply old.tally tally held holds
+    → RepliesTo All old.stage line reply stage → TellsReply (Err fault) line reply old.tally tally held holds
     → TellsLine (Err fault) line old new held holds
 line_untold faults.Memory line reply old stage tally new held holds says tells = tells
 line_untold faults.Write line reply old stage tally new held holds says tells = absurd tells
@@ -175,7 +179,7 @@ line_untold faults.Read line reply old stage tally new held holds says tells = a
 line_untold faults.InputTooLong line reply old stage tally new held holds says tells = absurd tells
 
 pub line_after : (result : Result (Unit {0}) RunFault) (line reply : List ℕ) (old new : Place) (held holds : Option (List ℕ))
-    → RepliesTo All old.stage line reply new.stage → TellsReply result reply old.tally new.tally held holds
+    → RepliesTo All old.stage line reply new.stage → TellsReply result line reply old.tally new.tally held holds
     → TellsLine result line old new held holds
 line_after (Ok done) line reply old new held holds says tells = line_told line reply old new held holds says tells
 line_after (Err fault) line reply old new held holds says tells =

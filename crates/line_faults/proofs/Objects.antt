@@ -1,5 +1,5 @@
 -- The text of the object of a finding, from the texts of its members.
-use Rattle.std.proofs.Common.{◌≡◌, ◌∙◌, ℕ, List, [], ◌++◌, codes, decimal, Some, ap, append_assoc, refl}
+use Rattle.std.proofs.Common.{◌≡◌, ◌∙◌, ℕ, List, [], ◌++◌, codes, Some, ap, append_assoc, refl}
 use Rattle.serde_json.specs.Written.{compact_text}
 use Rattle.serde_json.proofs.OnLiterals.{serde_json_on_literals}
 use Rattle.line_faults.specs.Finding.{FindingValue, finding_object, number_or_null, text_or_null}

@@ -1,20 +1,26 @@
 -- What is found in one line.
-use Rattle.std.proofs.Common.{rules, ◌≡◌, ℕ, ◌+◌, ◌==◌, ◌||◌, not, Bool, true, false, List, [], ◌∷◌, ◌++◌, length, map, Option, Some, None, Ok, is_some, refl, sym, ap, ◌∙◌, append_assoc, append-nil}
+use Rattle.std.proofs.Common.{rules, ◌≡◌, ℕ, ◌+◌, ◌==◌, ◌||◌, not, Bool, true, false, List, [], ◌∷◌, ◌++◌, length, map, Option, Some, None, Result, Ok, Err, is_some, refl, sym, ap, subst, ◌∙◌, append_assoc, append-nil}
 use Rattle.std.proofs.Math.Dec.{eqb-suc-zero}
 use denote.Ref.{Bor}
-use Rattle.std.specs.Prelude.{All, codes, flat_map, if◌then◌else◌}
+use Rattle.std.specs.Prelude.{All, IfOk, IfSome, codes, flat_map, if◌then◌else◌}
 use Rattle.std.specs.String.{string_bytes}
+use Rattle.std.proofs.lemmas.Option.{same_Some}
 use Rattle.std.proofs.lemmas.Grind.{flat_map-append}
 use Rattle.std.proofs.lemmas.List.Elements.{All-cons, All-nil}
 use Rattle.std.proofs.lemmas.List.Folds.{flat_map-map}
+use Rattle.serde_json.specs.Data.{Data}
+use Rattle.refusal.specs.Optional.{◌>>=◌}
+use Rattle.json_fields.specs.Fields.{document_in}
 use Rattle.event_lines.specs.Refusals.{Tells, coded, is_refusal}
 use Rattle.event_lines.specs.Run.{has_line_end}
 use Rattle.line_faults.specs.declared.finding.FindingForm.{FindingForm}
 use Rattle.line_faults.specs.declared.said.Said.{Said}
 use Rattle.line_faults.specs.Finding.{FindingValue, all_written, has_any, written}
-use Rattle.line_faults.specs.Explanation.{AreReasons, IsReason, IsTold, IsWarning}
+use Rattle.line_faults.specs.Explanation.{AreReasons, IsReason, IsTold, IsWarning, Names}
+use Rattle.line_faults.specs.Misfits.{Meant, meant_in, refused_misfit}
 use Rattle.line_faults.specs.inner.Adding.{Adds, AddsOne, AreFound, one_line, warning_of}
-use Rattle.line_faults.specs.inner.Telling.{Tally, TellsReply, with_told}
+use Rattle.line_faults.specs.inner.Meaning.{IsStill, both_said, meant_by, member_said, wanted_said}
+use Rattle.line_faults.specs.inner.Telling.{Tally, TellsReply}
 
 -- findings behind findings
 two_texts : (form : FindingForm) (one other : List FindingValue)
@@ -29,22 +35,68 @@ pub told_if_refused : (reply : List ℕ) (refusal : Option (ℕ × Bor (List ℕ
 told_if_refused reply None tells = sym tells
 told_if_refused reply (Some one) tells = sym tells.0
 
-pub no_reason : (form : FindingForm) (refused : Bool) (number : ℕ) (reply text : List ℕ) → refused ≡ false
-    → Adds form (AreReasons refused number reply) text text
-no_reason form true number reply text is = absurd (search (rules, is))
-no_reason form false number reply text is = ([], (refl, sym (append-nil text)))
+pub no_reason : (form : FindingForm) (refused : Bool) (number : ℕ) (line reply text : List ℕ) → refused ≡ false
+    → Adds form (AreReasons refused number line reply) text text
+no_reason form true number line reply text is = absurd (search (rules, is))
+no_reason form false number line reply text is = ([], (refl, sym (append-nil text)))
 
-pub one_reason : (form : FindingForm) (refused : Bool) (number : ℕ) (reply before after : List ℕ) → refused ≡ true
-    → AddsOne form (IsReason number reply) before after
-    → Adds form (AreReasons refused number reply) before after
-one_reason form false number reply before after is one = absurd (search (rules, is))
-one_reason form true number reply before after is one = (
+pub one_reason : (form : FindingForm) (refused : Bool) (number : ℕ) (line reply before after : List ℕ) → refused ≡ true
+    → AddsOne form (IsReason number line reply) before after
+    → Adds form (AreReasons refused number line reply) before after
+one_reason form false number line reply before after is one = absurd (search (rules, is))
+one_reason form true number line reply before after is one = (
   one.0 ∷ [],
   (
     (one.0, (one.1.0, refl)),
     one.1.1 ∙ ap (λ t. before ++ t) (sym (append-nil (written form one.0))),
   ),
 )
+
+-- what is meant is what is said
+both_are : (member wanted : Option (List ℕ)) (meant : Meant) → both_said member wanted ≡ Some meant
+    → (member ≡ Some meant.member) × (wanted ≡ Some meant.wanted)
+both_are None wanted meant is = absurd cc
+both_are (Some member) None meant is = absurd cc
+both_are (Some member) (Some wanted) meant is =
+    let same = same_Some (record { member = member; wanted = wanted }) meant is in
+    (ap (λ (m : Meant). Some m.member) same, ap (λ (m : Meant). Some m.wanted) same)
+
+-- a finding names what is meant, if it is that of what is said
+pub names_meant : (meant : Option Meant) (said : Said) (finding : FindingValue)
+    → IfSome meant (λ one. meant_by said ≡ Some one) → finding.member ≡ member_said said
+    → finding.wanted ≡ wanted_said said → IfSome meant (Names finding)
+names_meant None said finding is member wanted = tt
+names_meant (Some one) said finding is member wanted =
+    let both = both_are (member_said said) (wanted_said said) one is in
+    (member ∙ both.0, wanted ∙ both.1)
+
+-- what is meant stays so where neither the member nor what is wanted is said anew
+meant_still : (meant : Option Meant) (old told : Said) → IsStill old told
+    → IfSome meant (λ one. meant_by old ≡ Some one) → IfSome meant (λ one. meant_by told ≡ Some one)
+meant_still None old told still is = tt
+meant_still (Some one) old told still is =
+    ap (λ o. both_said o (wanted_said told)) still.0 ∙ ap (λ o. both_said (member_said old) o) still.1 ∙ is
+
+pub meant_on : {E : Type 0} (result : Result Said E) (meant : Option Meant) (old : Said)
+    → IfOk result (IsStill old) → IfSome meant (λ one. meant_by old ≡ Some one)
+    → IfOk result (λ told. IfSome meant (λ one. meant_by told ≡ Some one))
+meant_on (Ok told) meant old still is = meant_still meant old told still is
+meant_on (Err error) meant old still is = tt
+
+-- what is meant in a line is what is meant in its value
+meant_of_value : (number : ℕ) (refusal : ℕ) (value : Option Data) (said : Said)
+    → IfSome value (λ d. IfSome (refused_misfit (number == 1) refusal d) (λ one. meant_by said ≡ Some one))
+    → IfSome (value >>= refused_misfit (number == 1) refusal) (λ one. meant_by said ≡ Some one)
+meant_of_value number refusal None said there = tt
+meant_of_value number refusal (Some d) said there = there
+
+pub meant_there : (number : ℕ) (line : List ℕ) (refusal : ℕ) (value : Option Data) (said : Said)
+    → value ≡ document_in line
+    → IfSome value (λ d. IfSome (refused_misfit (number == 1) refusal d) (λ one. meant_by said ≡ Some one))
+    → IfSome (meant_in number line refusal) (λ one. meant_by said ≡ Some one)
+meant_there number line refusal value said is there =
+    subst (λ (v : Option Data). IfSome (v >>= refused_misfit (number == 1) refusal) (λ one. meant_by said ≡ Some one))
+    is (meant_of_value number refusal value said there)
 
 -- ---- warnings
 
@@ -76,18 +128,18 @@ any_warning number (one ∷ warnings) = ap not (eqb-suc-zero (length warnings))
 
 -- ---- both
 
-any_of : (refused : Bool) (number : ℕ) (reply : List ℕ) (reasons warnings : List FindingValue) (none : Bool)
-    → AreReasons refused number reply reasons → none ≡ has_any warnings
+any_of : (refused : Bool) (number : ℕ) (line reply : List ℕ) (reasons warnings : List FindingValue) (none : Bool)
+    → AreReasons refused number line reply reasons → none ≡ has_any warnings
     → (refused || none) ≡ has_any (reasons ++ warnings)
-any_of true number reply reasons warnings none are is = rw are.1.1 refl
-any_of false number reply reasons warnings none are is = rw are is
+any_of true number line reply reasons warnings none are is = rw are.1.1 refl
+any_of false number line reply reasons warnings none are is = rw are is
 
 -- the reason, if there is one, and then the warnings
-pub told : (form : FindingForm) (number : ℕ) (warnings : List Said) (reply before text after : List ℕ)
-    → Adds form (AreReasons (is_refusal reply) number reply) before text
+pub told : (form : FindingForm) (number : ℕ) (warnings : List Said) (line reply before text after : List ℕ)
+    → Adds form (AreReasons (is_refusal reply) number line reply) before text
     → after ≡ text ++ flat_map (λ warning. written form (warning_of number warning)) warnings
-    → Adds form (AreFound (is_refusal reply || not (length warnings == 0)) (IsTold number reply)) before after
-told form number warnings reply before text after reasons warned =
+    → Adds form (AreFound (is_refusal reply || not (length warnings == 0)) (IsTold number line reply)) before after
+told form number warnings line reply before text after reasons warned =
     let strange = map (warning_of number) warnings in (
       reasons.0 ++ strange,
       (
@@ -99,7 +151,7 @@ told form number warnings reply before text after reasons warned =
             strange = are_warnings number warnings;
             are = refl;
           };
-          any = any_of (is_refusal reply) number reply reasons.0 strange (not (length warnings == 0)) reasons.1.0
+          any = any_of (is_refusal reply) number line reply reasons.0 strange (not (length warnings == 0)) reasons.1.0
               (any_warning number warnings);
         },
         warned ∙ ap (λ t. text ++ t) (sym (flat_map-map (written form) (warning_of number) warnings))
@@ -111,11 +163,11 @@ told form number warnings reply before text after reasons warned =
 
 -- ---- what is kept of it
 
-pub noted : (old new : Tally) (reply before text after : List ℕ) (found : Bool)
-    → Adds old.form (AreFound found (IsTold (old.number + 1) reply)) [] text → after ≡ before ++ text
+pub noted : (old new : Tally) (line reply before text after : List ℕ) (found : Bool)
+    → Adds old.form (AreFound found (IsTold (old.number + 1) line reply)) [] text → after ≡ before ++ text
     → new ≡ record { number = old.number + 1; found = old.found || found; form = old.form }
-    → TellsReply (Ok tt) reply old new (Some before) (Some after)
-noted old new reply before text after found adds kept is = (
+    → TellsReply (Ok tt) line reply old new (Some before) (Some after)
+noted old new line reply before text after found adds kept is = (
   adds.0,
   (
     adds.1.0.are,

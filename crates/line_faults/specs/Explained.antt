@@ -18,7 +18,7 @@ pub record Explains (form : FindingForm) (lines : List (List ℕ)) (stage : Stag
   pub replies : List (List ℕ)
   pub findings : List FindingValue
   pub replied : RepliesToInput All lines replies stage
-  pub told : AreTold 1 replies findings
+  pub told : AreTold 1 lines replies findings
   pub says : text ≡ all_written form findings
 
 -- the text is about all complete lines of what was read, and the run may go on after them

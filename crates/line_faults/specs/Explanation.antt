@@ -1,18 +1,25 @@
 -- What is found in the lines of a run, by their replies.
-use Rattle.std.specs.Prelude.{◌≡◌, ℕ, ◌+◌, Bool, true, false, List, [], ◌∷◌, ◌++◌, All, Some, None}
+use Rattle.std.specs.Prelude.{◌≡◌, ℕ, ◌+◌, Bool, true, false, List, [], ◌∷◌, ◌++◌, All, IfSome, Some, None}
 use Rattle.event_lines.specs.Refusals.{Tells, is_refusal}
 use Rattle.event_lines.specs.Run.{has_line_end}
 use Rattle.line_faults.specs.Finding.{FindingValue}
+use Rattle.line_faults.specs.Misfits.{Meant, meant_in}
+
+-- the finding names this member and what is wanted there
+abbrev pub Names : FindingValue → Meant → Type 0
+Names finding meant = (finding.member ≡ Some meant.member) × (finding.wanted ≡ Some meant.wanted)
 
 -- the finding says why the line of this number has this reply, with the number and the name of the
--- refusal that the reply tells
-pub record IsReason (number : ℕ) (reply : List ℕ) (finding : FindingValue) : Type 0 where
+-- refusal that the reply tells; if the line has not the form of one, it names the first member that
+-- is missing or not of its form
+pub record IsReason (number : ℕ) (line reply : List ℕ) (finding : FindingValue) : Type 0 where
   pub coded : ℕ × List ℕ
   pub tells : Tells reply (Some coded)
-  pub line : finding.line ≡ number
+  pub numbered : finding.line ≡ number
   pub replied : finding.reply ≡ Some reply
   pub refusal : finding.refusal ≡ Some coded.0
   pub name : finding.name ≡ Some coded.1
+  pub meant : IfSome (meant_in number line coded.0) (Names finding)
   pub one : has_line_end finding.says ≡ false
 
 -- the finding is a warning about the line of this number
@@ -22,25 +29,27 @@ pub record IsWarning (number : ℕ) (finding : FindingValue) : Type 0 where
   pub one : has_line_end finding.says ≡ false
 
 -- the findings say why the line of this number is refused, if it is; else there are none
-abbrev pub AreReasons : (refused : Bool) (number : ℕ) (reply : List ℕ)
+abbrev pub AreReasons : (refused : Bool) (number : ℕ) (line reply : List ℕ)
     (findings : List FindingValue) → Type 0
-AreReasons true number reply findings =
-    (finding : FindingValue) × (IsReason number reply finding × (findings ≡ finding ∷ []))
-AreReasons false number reply findings = findings ≡ []
+AreReasons true number line reply findings =
+    (finding : FindingValue) × (IsReason number line reply finding × (findings ≡ finding ∷ []))
+AreReasons false number line reply findings = findings ≡ []
 
 -- the findings are about the line of this number with this reply: why it is refused, if it is, and
 -- then warnings
-pub record IsTold (number : ℕ) (reply : List ℕ) (findings : List FindingValue) : Type 0 where
+pub record IsTold (number : ℕ) (line reply : List ℕ) (findings : List FindingValue) : Type 0 where
   pub reasons : List FindingValue
   pub warnings : List FindingValue
-  pub refused : AreReasons (is_refusal reply) number reply reasons
+  pub refused : AreReasons (is_refusal reply) number line reply reasons
   pub strange : All (IsWarning number) warnings
   pub are : findings ≡ reasons ++ warnings
 
--- the findings are about lines with these replies, one after another, of which the first has this
--- number
-abbrev pub AreTold : (first : ℕ) (replies : List (List ℕ)) (findings : List FindingValue) → Type 0
-AreTold first [] findings = findings ≡ []
-AreTold first (reply ∷ replies) findings = (told later : List FindingValue)
-    × (IsTold first reply told
-    × (AreTold (first + 1) replies later × (findings ≡ told ++ later)))
+-- the findings are about these lines with these replies, one after another, of which the first has
+-- this number
+abbrev pub AreTold : (first : ℕ) (lines replies : List (List ℕ)) (findings : List FindingValue)
+    → Type 0
+AreTold first [] [] findings = findings ≡ []
+AreTold first (line ∷ lines) (reply ∷ replies) findings = (told later : List FindingValue)
+    × (IsTold first line reply told
+    × (AreTold (first + 1) lines replies later × (findings ≡ told ++ later)))
+AreTold first lines replies findings = ⊥

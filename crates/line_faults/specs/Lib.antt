@@ -1,4 +1,5 @@
 pub mod Finding
+pub mod Misfits
 pub mod Explanation
 pub mod Explained
 pub mod inner

@@ -3,4 +3,5 @@ pub mod Adding
 pub mod Denying
 pub mod Following
 pub mod Joining
+pub mod Meaning
 pub mod Telling

@@ -1,12 +1,16 @@
 //! What is found in a line.
 
-ghost use Rattle.std.specs.Prelude.{◌≡◌, ◌==◌, ◌++◌, ◌||◌, false, flat_map, not, OnOk, IfOk, Some};
+ghost use Rattle.std.specs.Prelude.{◌≡◌, ◌==◌, ◌++◌, ◌||◌, false, flat_map, not, option_map, OnOk, IfOk, IfSome, Some};
 ghost use Rattle.std.specs.String.{string_bytes};
+ghost use Rattle.serde_json.specs.View.{view};
+ghost use Rattle.json_fields.specs.Fields.{document_in};
 ghost use Rattle.event_lines.specs.Refusals.{Tells, coded, is_refusal};
 ghost use Rattle.event_lines.specs.Run.{has_line_end};
 ghost use Rattle.line_faults.specs.Explanation.{AreReasons, IsReason, IsTold};
 ghost use Rattle.line_faults.specs.Finding.{written};
+ghost use Rattle.line_faults.specs.Misfits.{meant_in};
 ghost use Rattle.line_faults.specs.inner.Adding.{Adds, AddsOne, AreFound, SaysAs, one_line, warning_of};
+ghost use Rattle.line_faults.specs.inner.Meaning.{meant_by};
 
 use crate::finding::{Finding, FindingForm};
 use crate::reason::{Line, reason_of, warnings_of};
@@ -33,8 +37,10 @@ fn on_one_line(text: &str) -> &str
 /// The finding that says why a line is refused, whose reply tells a refusal of this number and
 /// name.
 fn finding_of<'a>(line: &Line<'a>, code: u16, name: &'static str, why: &'a Said) -> Finding<'a>
-    requires { Tells line.now.reply.now (Some (code, name.now)) }
-    ensures is { IsReason line.now.number line.now.reply.now result }
+    requires tells { Tells line.now.reply.now (Some (code, name.now)) }
+    requires meant { IfSome (meant_in line.now.number line.now.bytes.now code)
+        (λ meant. meant_by why.now ≡ Some meant) }
+    ensures is { IsReason line.now.number line.now.bytes.now line.now.reply.now result }
     ensures says { SaysAs why.now result }
 {
     Finding {
@@ -59,8 +65,11 @@ fn push_reason(
     refusal: (u16, &'static str),
     why: &Said,
 ) -> Result<(), AllocError>
-    requires { Tells line.now.reply.now (Some (refusal.0, refusal.1.now)) }
-    ensures { OnOk result (AddsOne form (IsReason line.now.number line.now.reply.now)
+    requires tells { Tells line.now.reply.now (Some (refusal.0, refusal.1.now)) }
+    requires meant { IfSome (meant_in line.now.number line.now.bytes.now refusal.0)
+        (λ meant. meant_by why.now ≡ Some meant) }
+    ensures { OnOk result (AddsOne form
+        (IsReason line.now.number line.now.bytes.now line.now.reply.now)
         (string_bytes text.old) (string_bytes text.new)) }
 {
     let (code, name) = refusal;
@@ -116,7 +125,7 @@ fn push_warnings(
 }
 
 /// Adds the finding that says why a line is refused, if it is.
-#[tactic(auto, using(crate::proofs::Told::no_reason, crate::proofs::Told::one_reason))]
+#[tactic(auto, using(crate::proofs::Told::meant_there, crate::proofs::Told::no_reason, crate::proofs::Told::one_reason))]
 fn push_refusal(
     alloc: Global,
     form: FindingForm,
@@ -125,15 +134,16 @@ fn push_refusal(
     line: &Line<'_>,
     value: Option<&Value>,
 ) -> Result<(), AllocError>
-    requires { Tells line.now.reply.now (coded line.now.refusal) }
-    ensures { OnOk result (Adds form
-        (AreReasons (is_refusal line.now.reply.now) line.now.number line.now.reply.now)
+    requires tells { Tells line.now.reply.now (coded line.now.refusal) }
+    requires value { option_map (λ v. view v.now) value ≡ document_in line.now.bytes.now }
+    ensures { OnOk result (Adds form (AreReasons (is_refusal line.now.reply.now)
+        line.now.number line.now.bytes.now line.now.reply.now)
         (string_bytes text.old) (string_bytes text.new)) }
 {
     let Some(refusal) = line.refusal else {
         return Ok(());
     };
-    let why = reason_of(alloc, context, line, value)?;
+    let why = reason_of(alloc, context, line, usize::from(refusal.0), value)?;
     push_reason(alloc, form, text, line, refusal, &why)
 }
 
@@ -155,9 +165,10 @@ pub(crate) fn push_comments(
     line: &Line<'_>,
     value: Option<&Value>,
 ) -> Result<bool, AllocError>
-    requires { Tells line.now.reply.now (coded line.now.refusal) }
+    requires tells { Tells line.now.reply.now (coded line.now.refusal) }
+    requires value { option_map (λ v. view v.now) value ≡ document_in line.now.bytes.now }
     ensures { IfOk result (λ found. Adds form
-        (AreFound found (IsTold line.now.number line.now.reply.now))
+        (AreFound found (IsTold line.now.number line.now.bytes.now line.now.reply.now))
         (string_bytes text.old) (string_bytes text.new)) }
 {
     push_refusal(alloc, form, text, context, line, value)?;

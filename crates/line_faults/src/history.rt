@@ -1,6 +1,9 @@
 //! What the lines before a line have made, as far as the network does not tell it.
+#![tactic(auto, unfolding(json_fields::specs::Fields::text_at))]
 
-ghost use Rattle.std.specs.Prelude.{◌≡◌};
+ghost use Rattle.std.specs.Prelude.{◌≡◌, option_map};
+ghost use Rattle.serde_json.specs.View.{view};
+ghost use Rattle.json_fields.specs.Fields.{text_at};
 ghost use Rattle.line_faults.specs.inner.Following.{cause_of_lack};
 
 use event_lines::members::MemberForm;
@@ -50,7 +53,8 @@ impl Makers {
     /// The first refused line, if the one of this number would be there had no such line been
     /// refused.
     pub(crate) fn cause_of_lack(&self, number: usize) -> Option<usize>
-        ensures { result ≡ cause_of_lack self.now.made self.now.refused self.now.first_refused number }
+        ensures { result
+            ≡ cause_of_lack self.now.made self.now.refused self.now.first_refused number }
     {
         if number < self.made || number - self.made >= self.refused {
             return None;
@@ -187,7 +191,9 @@ pub(crate) fn word_of(event: &Value) -> &str {
 }
 
 /// The text of this name in an object.
-pub(crate) fn text_of<'v>(object: &'v Value, name: &str) -> Option<&'v str> {
+pub(crate) fn text_of<'v>(object: &'v Value, name: &str) -> Option<&'v str>
+    ensures { option_map (λ text. text.now) result ≡ text_at name.now (view object.now) }
+{
     object.get(name)?.as_str()
 }
 

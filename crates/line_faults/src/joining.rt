@@ -3,8 +3,8 @@
 ghost use Rattle.std.specs.Prelude.{◌≡◌, nat_le};
 ghost use Rattle.line_faults.specs.inner.Joining.{first_at_fault};
 
-use crate::found::{Place, push_place};
 use crate::history::{text_of, whole_of};
+use crate::place::{Place, push_place};
 use crate::said::Said;
 use crate::sentence::push_sentence;
 use crate::topology::values_of;
@@ -55,7 +55,7 @@ struct EndPlace {
 impl EndPlace {
     /// The end in a line.
     fn in_line<'a>(self, line: Place<'a>) -> Place<'a> {
-        line.item("links", self.link).part(self.side.name())
+        line.link_end(self.link, self.side.name())
     }
 }
 

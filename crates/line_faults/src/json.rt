@@ -1,7 +1,13 @@
 //! Lines that are no JSON.
+#![tactic(auto, unfolding(json_fields::specs::Fields::document_in))]
 
-use crate::found::{Front, Place};
+ghost use Rattle.std.specs.Prelude.{◌≡◌, IfOk, option_map};
+ghost use Rattle.serde_json.specs.View.{view};
+ghost use Rattle.json_fields.specs.Fields.{document_in};
+
+use crate::found::Front;
 use crate::json_text::{Closers, Reading};
+use crate::place::Place;
 use crate::said::Said;
 use separators::text::trim;
 use serde_json::Value;
@@ -10,7 +16,9 @@ use std::fmt::Write;
 use std::str;
 
 /// The value of a line; `None` if it is no JSON.
-pub(crate) fn read(alloc: Global, line: &[u8]) -> Result<Option<Value>, AllocError> {
+pub(crate) fn read(alloc: Global, line: &[u8]) -> Result<Option<Value>, AllocError>
+    ensures { IfOk result (λ value. option_map view value ≡ document_in line.now) }
+{
     match Value::from_slice(alloc, line) {
         Ok(value) => Ok(Some(value)),
         Err(error) if error.is_memory() => Err(AllocError),

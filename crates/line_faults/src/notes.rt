@@ -1,7 +1,9 @@
 //! What is kept of the lines that were told.
 
-ghost use Rattle.std.specs.Prelude.{◌≡◌, ◌+◌, ◌≤◌, [], Some, IfOk};
+ghost use Rattle.std.specs.Prelude.{◌≡◌, ◌+◌, ◌≤◌, [], Some, IfOk, option_map};
 ghost use Rattle.std.specs.String.{string_bytes};
+ghost use Rattle.serde_json.specs.View.{view};
+ghost use Rattle.json_fields.specs.Fields.{document_in};
 ghost use Rattle.streams.specs.Streams.{most_input};
 ghost use Rattle.event_lines.specs.Refusals.{Tells};
 ghost use Rattle.event_lines.specs.Replies.{refusal_behind, reply_behind};
@@ -25,13 +27,15 @@ use std::alloc::{AllocError, Global};
 /// that it names.
 #[derive(Drop)]
 pub(crate) struct Ahead {
-    value: Option<Value>,
+    pub(crate) value: Option<Value>,
     stop: Option<RouterStop>,
 }
 
 impl Ahead {
     /// Of the next line of a run.
-    pub(crate) fn of(alloc: Global, run: &LineRun, line: &[u8]) -> Result<Ahead, AllocError> {
+    pub(crate) fn of(alloc: Global, run: &LineRun, line: &[u8]) -> Result<Ahead, AllocError>
+        ensures { IfOk result (λ ahead. option_map view ahead.value ≡ document_in line.now) }
+    {
         let value = read(alloc, line)?;
         let stop = match (run.net(), value.as_ref()) {
             (Some(net), Some(event)) => stop_of(net, event),
@@ -81,8 +85,9 @@ impl Notes {
     ) -> Result<bool, AllocError>
         requires few { self.old.number ≤ most_input }
         requires refusal { Tells (reply_behind run.now) (refusal_behind run.now) }
+        requires value { option_map view ahead.now.value ≡ document_in line.now }
         ensures told { IfOk result (λ found. Adds self.old.form
-            (AreFound found (IsTold (self.old.number + 1) (reply_behind run.now)))
+            (AreFound found (IsTold (self.old.number + 1) line.now (reply_behind run.now)))
             [] (string_bytes self.new.comments)) }
         ensures tally { tally_of self.new ≡ tally_of self.old }
         ensures text { self.new.text ≡ self.old.text }
@@ -118,8 +123,10 @@ impl Notes {
     ) -> Result<(), RunFault>
         requires few { self.old.number ≤ most_input }
         requires refusal { Tells (reply_behind run.now) (refusal_behind run.now) }
-        ensures { TellsReply result (reply_behind run.now) (tally_of self.old) (tally_of self.new)
-            (Some (string_bytes self.old.text)) (Some (string_bytes self.new.text)) }
+        requires value { option_map view ahead.now.value ≡ document_in line.now }
+        ensures { TellsReply result line.now (reply_behind run.now) (tally_of self.old)
+            (tally_of self.new) (Some (string_bytes self.old.text))
+            (Some (string_bytes self.new.text)) }
     {
         let found = self.explain(alloc, run, line, ahead)?;
         self.text.push_str(&self.comments)?;

@@ -1,56 +1,17 @@
-//! Policies of a request: of which form they are not, or where they can't be read.
+//! Policies of a request that can't be read.
 
-use crate::found::{Place, push_entry, push_misfit, push_place, push_value, push_wanted};
+use crate::found::push_value;
 use crate::history::text_of;
+use crate::place::{Place, push_entry, push_place};
 use crate::said::Said;
 use crate::sentence::push_sentence;
 use crate::sequence::push_stop;
-use event_lines::members::policy_misfit;
 use policy_expr::{Acl, AclText, MAX_ACL_ENTRIES, PolicyFault, Seq};
 use refusal::OrMemory;
 use separators::text::trim;
 use serde_json::Value;
 use std::alloc::{AllocError, Global};
 use std::fmt::Write;
-
-/// Adds the first part of a request's policy that has not its form. Returns whether there is one.
-pub(crate) fn push_bad_form(
-    why: &mut Said,
-    line: Place<'_>,
-    request: &Value,
-) -> Result<bool, AllocError> {
-    let Some(part) = policy_misfit(request) else {
-        return Ok(false);
-    };
-    let (place, policy) = match part.option {
-        None => (line, request),
-        Some(number) => {
-            let option = item_of(request.get("options"), number);
-            (line.item("options", number), option.unwrap_or(request))
-        }
-    };
-    match part.entry {
-        None => push_misfit(why, place, policy, &[part.member]),
-        Some(number) => {
-            push_entry(why, place, number)?;
-            push_wanted(
-                why,
-                place,
-                item_of(policy.get("acl"), number),
-                &part.member.1,
-            )?;
-            Ok(true)
-        }
-    }
-}
-
-/// The item of this number of a list.
-fn item_of(list: Option<&Value>, number: usize) -> Option<&Value> {
-    match list {
-        Some(Value::Array(items)) => items.get(number),
-        _ => None,
-    }
-}
 
 /// Adds where the first policy of a request that is refused can't be read, and the sentence of the
 /// refusal of this number.

@@ -1,14 +1,20 @@
 //! Why a line is refused, and what is strange in it.
 
+ghost use Rattle.std.specs.Prelude.{◌≡◌, ◌==◌, IfOk, IfSome, OnOk, Some, false, true};
+ghost use Rattle.serde_json.specs.View.{view};
+ghost use Rattle.line_faults.specs.Misfits.{line_site, refused_misfit, topology_misfit};
+ghost use Rattle.line_faults.specs.inner.Meaning.{IsStill, meant_by, site_of};
+
 use crate::doubled::add_doubled;
 use crate::event::push_bad_line;
-use crate::found::Place;
 use crate::joining::push_broken_rule;
 use crate::json::push_break;
+use crate::misfit::topology_misfit;
+use crate::place::Place;
 use crate::policy::push_unread;
 use crate::refused::{Context, push_refused};
 use crate::said::Said;
-use crate::topology::{bad_fields, push_event_first};
+use crate::topology::{push_event_first, topology_misfits};
 use crate::turn::push_refused_turn;
 use crate::unanswered::add_unanswered;
 use crate::unread::{add_unread_of_event, add_unread_of_topology};
@@ -31,12 +37,16 @@ pub(crate) struct Line<'a> {
 
 impl<'a> Line<'a> {
     /// Whether it is to be a topology.
-    fn is_topology(&self) -> bool {
+    fn is_topology(&self) -> bool
+        ensures { result ≡ (self.now.number == 1) }
+    {
         self.number == 1
     }
 
     /// The place that is the line itself.
-    fn place(&self) -> Place<'a> {
+    fn place(&self) -> Place<'a>
+        ensures { site_of result ≡ line_site }
+    {
         Place::line(str::from_utf8(self.bytes).unwrap_or(""))
     }
 
@@ -46,27 +56,35 @@ impl<'a> Line<'a> {
     }
 }
 
-/// Why a line is refused: where in it, what stands there, and what is wanted.
+/// Why a line is refused with this number: where in it, what stands there, and what is wanted.
 pub(crate) fn reason_of(
     alloc: Global,
     context: &Context<'_>,
     line: &Line<'_>,
+    code: usize,
     value: Option<&Value>,
-) -> Result<Said, AllocError> {
+) -> Result<Said, AllocError>
+    ensures { IfOk result (λ why. IfSome value.entry (λ value. IfSome
+        (refused_misfit (line.now.number == 1) code (view value.now))
+        (λ meant. meant_by why ≡ Some meant))) }
+{
     let mut why = Said::new(alloc);
-    let code = line.code().unwrap_or(0);
-    match value {
-        None => push_no_value(alloc, &mut why, line)?,
-        Some(topology) if line.is_topology() => {
-            return topology_reason(alloc, line.place(), code, topology);
-        }
-        Some(event) => push_event(alloc, &mut why, line.place(), context, code, event)?,
+    let Some(value) = value else {
+        push_no_value(alloc, &mut why, line)?;
+        return or_unknown(why);
+    };
+    if line.is_topology() {
+        push_topology(alloc, &mut why, line.place(), code, value)?;
+        return or_unknown(why);
     }
+    push_event(alloc, &mut why, line.place(), context, code, value)?;
     or_unknown(why)
 }
 
 /// What is said of a line, or that its place was not found.
-fn or_unknown(mut why: Said) -> Result<Said, AllocError> {
+fn or_unknown(mut why: Said) -> Result<Said, AllocError>
+    ensures { IfOk result (λ told. IsStill why told) }
+{
     if why.text.is_empty() {
         why.text.push_str("its place was not found")?;
     }
@@ -94,28 +112,35 @@ fn is_yaml(line: &[u8]) -> bool {
     line.starts_with(b"---") || line.starts_with(b"ASes:") || line.starts_with(b"links:")
 }
 
-/// Why a topology is refused with this number.
-fn topology_reason(
+/// Adds why a topology is refused with this number.
+fn push_topology(
     alloc: Global,
+    why: &mut Said,
     line: Place<'_>,
     code: usize,
     topology: &Value,
-) -> Result<Said, AllocError> {
+) -> Result<(), AllocError>
+    requires { site_of line ≡ line_site }
+    ensures { OnOk result (IfSome (refused_misfit true code (view topology.now))
+        (λ meant. meant_by why.new ≡ Some meant)) }
+{
     if code == 11 {
-        return bad_field_reason(alloc, line, topology);
+        return push_bad_topology(why, line, topology);
     }
-    let mut why = Said::new(alloc);
-    push_broken_rule(alloc, &mut why, line, code, topology)?;
-    or_unknown(why)
+    push_broken_rule(alloc, why, line, code, topology)
 }
 
-/// Why a topology has not the form of one: the first of the objects that have not.
-fn bad_field_reason(alloc: Global, line: Place<'_>, topology: &Value) -> Result<Said, AllocError> {
-    let Some(mut why) = bad_fields(alloc, line, topology, 1)?.pop() else {
-        return or_unknown(Said::new(alloc));
+/// Adds why a topology has not the form of one: the first of the objects that have not.
+fn push_bad_topology(why: &mut Said, line: Place<'_>, topology: &Value) -> Result<(), AllocError>
+    requires { site_of line ≡ line_site }
+    ensures { OnOk result (IfSome (topology_misfit (view topology.now))
+        (λ meant. meant_by why.new ≡ Some meant)) }
+{
+    let Some(misfit) = topology_misfit(line, topology) else {
+        return Ok(());
     };
-    push_event_first(&mut why, topology)?;
-    Ok(why)
+    misfit.push_to(why)?;
+    push_event_first(why, topology)
 }
 
 /// Adds why a line after the first is refused with this number.
@@ -126,9 +151,15 @@ fn push_event(
     context: &Context<'_>,
     code: usize,
     event: &Value,
-) -> Result<(), AllocError> {
+) -> Result<(), AllocError>
+    requires { site_of line ≡ line_site }
+    ensures { OnOk result (IfSome (refused_misfit false code (view event.now))
+        (λ meant. meant_by why.new ≡ Some meant)) }
+{
+    if code == 140 {
+        return push_bad_line(why, line, event);
+    }
     match code {
-        140 => push_bad_line(why, line, event),
         60..=66 => push_unread(alloc, why, line, code, event),
         90..=100 => push_refused_turn(alloc, why, line, context, event),
         _ => push_refused(why, line, context, code, event),
@@ -144,9 +175,11 @@ fn add_topology_warnings(
     topology: &Value,
 ) -> Result<(), AllocError> {
     if line.code() == Some(11) {
-        let faults = bad_fields(alloc, line.place(), topology, MAX_FAULTS)?;
-        for fault in faults.into_iter().skip(1) {
-            warnings.push(fault)?;
+        let misfits = topology_misfits(alloc, line.place(), topology, MAX_FAULTS)?;
+        for misfit in misfits.iter().skip(1) {
+            let mut warning = Said::new(alloc);
+            misfit.push_to(&mut warning)?;
+            warnings.push(warning)?;
         }
     }
     add_unread_of_topology(alloc, warnings, line.place(), topology)

@@ -1,7 +1,8 @@
 //! Events that are refused: what of the event is meant.
 
-use crate::found::{Place, push_found, push_place};
+use crate::found::push_found;
 use crate::history::{History, Makers, address_at, interface_at, number_at, word_of};
+use crate::place::{Place, push_place};
 use crate::said::Said;
 use crate::sentence::{own_subject, push_sentence};
 use forwarding::{PacketLocation, RouterStop};

@@ -1,7 +1,9 @@
 //! The lines of a source, each of which is explained as soon as it is answered.
 
-ghost use Rattle.std.specs.Prelude.{◌≡◌, ◌+◌, ◌≤◌, ◌++◌, ◌∷◌, ◌||◌, [], true, false, length, Ok, Some};
+ghost use Rattle.std.specs.Prelude.{◌≡◌, ◌+◌, ◌≤◌, ◌++◌, ◌∷◌, ◌||◌, [], true, false, length, option_map, Ok, Some};
 ghost use Rattle.std.specs.String.{string_bytes};
+ghost use Rattle.serde_json.specs.View.{view};
+ghost use Rattle.json_fields.specs.Fields.{document_in};
 ghost use Rattle.streams.specs.Streams.{most_input};
 ghost use Rattle.event_lines.specs.Replies.{stage_behind};
 ghost use Rattle.event_lines.specs.Run.{has_line_end, is_read_fault, is_write_fault};
@@ -33,7 +35,8 @@ fn tell_known(
     line: &[u8],
     ahead: &Ahead,
 ) -> Result<(), RunFault>
-    requires { notes.old.number ≤ most_input }
+    requires few { notes.old.number ≤ most_input }
+    requires value { option_map view ahead.now.value ≡ document_in line.now }
     ensures { TellsLine result line.now (stands_at run.old notes.old) (stands_at run.new notes.new)
         (Some (string_bytes notes.old.text)) (Some (string_bytes notes.new.text)) }
 {

@@ -1,65 +1,49 @@
 //! Topologies that have not the form of one.
 
-use crate::found::{Place, push_misfit};
+ghost use Rattle.std.specs.Prelude.{◌≡◌};
+ghost use Rattle.line_faults.specs.Misfits.{line_site};
+ghost use Rattle.line_faults.specs.inner.Meaning.{IsStill, site_of};
+
+use crate::misfit::{Misfit, as_misfit, end_misfit, list_of, members_misfit, top_misfit};
+use crate::place::Place;
 use crate::said::Said;
-use event_lines::members::{Member, as_members, end_members, link_members, topology_members};
 use serde_json::Value;
 use std::alloc::{AllocError, Global};
 
 /// The values of a list in a topology; none if there is no such list.
 pub(crate) fn values_of<'v>(topology: &'v Value, name: &str) -> &'v [Value] {
-    match topology.get(name) {
-        Some(Value::Array(values)) => values,
-        _ => &[],
-    }
+    list_of(topology, name).unwrap_or(&[])
 }
 
-/// The objects of a topology that have not their form, so far; no more than `most` are looked for.
+/// The objects of a topology that have not their form, so far, and the most that are looked for.
 #[derive(Drop)]
-struct Misfits {
-    alloc: Global,
+struct Misfits<'v> {
     most: usize,
-    misfits: Vec<Said>,
+    found: Vec<Misfit<'v>>,
 }
 
-impl Misfits {
-    /// Adds the first of these members that the object at a place does not have in its form.
-    /// Returns whether it has all of them.
-    fn check(
-        &mut self,
-        place: Place<'_>,
-        object: &Value,
-        members: &[Member],
-    ) -> Result<bool, AllocError> {
-        if self.misfits.len() >= self.most {
-            return Ok(true);
+impl<'v> Misfits<'v> {
+    /// Adds a misfit, if there is one. Returns whether there is.
+    fn add(&mut self, misfit: Option<Misfit<'v>>) -> Result<bool, AllocError> {
+        let Some(misfit) = misfit else {
+            return Ok(false);
+        };
+        if self.found.len() < self.most {
+            self.found.push(misfit)?;
         }
-        let mut why = Said::new(self.alloc);
-        if !push_misfit(&mut why, place, object, members)? {
-            return Ok(true);
-        }
-        self.misfits.push(why)?;
-        Ok(false)
+        Ok(true)
     }
 
     /// Adds what is wrong with the form of a link, or else of its ends.
-    fn check_link(&mut self, place: Place<'_>, link: &Value) -> Result<(), AllocError> {
-        if self.check(place, link, link_members())? {
-            self.check_end(place, link, "a")?;
-            self.check_end(place, link, "b")?;
-        }
-        Ok(())
-    }
-
-    /// Adds what is wrong with the form of the end of this name.
-    fn check_end(
+    fn add_link(
         &mut self,
-        place: Place<'_>,
-        link: &Value,
-        name: &'static str,
+        line: Place<'v>,
+        number: usize,
+        link: &'v Value,
     ) -> Result<(), AllocError> {
-        if let Some(end) = link.get(name) {
-            let _ = self.check(place.part(name), end, end_members())?;
+        if !self.add(members_misfit(line, number, link))? {
+            let _ = self.add(end_misfit(line, number, "a", link))?;
+            let _ = self.add(end_misfit(line, number, "b", link))?;
         }
         Ok(())
     }
@@ -68,30 +52,33 @@ impl Misfits {
 /// Of each object of a topology that has not its form the first member that is missing or not of
 /// its form: of the topology itself, or else of its ASes, and then of its links; of the first
 /// objects, at most this many.
-pub(crate) fn bad_fields(
+pub(crate) fn topology_misfits<'v>(
     alloc: Global,
-    line: Place<'_>,
-    topology: &Value,
+    line: Place<'v>,
+    topology: &'v Value,
     most: usize,
-) -> Result<Vec<Said>, AllocError> {
-    let mut found = Misfits {
-        alloc,
+) -> Result<Vec<Misfit<'v>>, AllocError>
+    requires { site_of line ≡ line_site }
+{
+    let mut misfits = Misfits {
         most,
-        misfits: Vec::new(alloc),
+        found: Vec::new(alloc),
     };
-    if found.check(line, topology, topology_members())? {
+    if !misfits.add(top_misfit(line, topology))? {
         for (number, one) in values_of(topology, "ases").iter().enumerate() {
-            let _ = found.check(line.item("ases", number), one, as_members())?;
+            let _ = misfits.add(as_misfit(line, number, one))?;
         }
         for (number, link) in values_of(topology, "links").iter().enumerate() {
-            found.check_link(line.item("links", number), link)?;
+            misfits.add_link(line, number, link)?;
         }
     }
-    Ok(found.misfits)
+    Ok(misfits.found)
 }
 
 /// Adds that a first line is an event, if it is one.
-pub(crate) fn push_event_first(why: &mut Said, line: &Value) -> Result<(), AllocError> {
+pub(crate) fn push_event_first(why: &mut Said, line: &Value) -> Result<(), AllocError>
+    ensures { IsStill why.old why.new }
+{
     match line.get("do") {
         Some(_) => why.text.push_str(
             "; this is an event, and the first line has to be the topology",

@@ -1,7 +1,8 @@
 //! Packets that a router refuses: the check that fails, and what of the lines before made it fail.
 
-use crate::found::{Place, push_found, push_place};
+use crate::found::push_found;
 use crate::history::{History, number_at};
+use crate::place::{Place, push_place};
 use crate::refused::{Context, push_link};
 use crate::said::Said;
 use forwarding::{PacketLocation, RouterStop};

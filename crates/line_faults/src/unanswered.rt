@@ -4,8 +4,8 @@
 
 ghost use Rattle.line_faults.specs.inner.Denying.{DeniesWalk};
 
-use crate::found::{Place, entry_starts, push_entry, push_entry_from, push_place};
 use crate::history::{address_at, word_of};
+use crate::place::{Place, entry_starts, push_entry, push_entry_from, push_place};
 use crate::refused::{Context, is_down, push_link};
 use crate::said::Said;
 use combinator::{PathList, walks_between};

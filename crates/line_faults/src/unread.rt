@@ -1,7 +1,7 @@
 //! What is strange in a line and no fault: members that nobody reads, and addresses that no AS has.
 
-use crate::found::{Place, push_name, push_place};
 use crate::history::{address_at, word_of};
+use crate::place::{Place, push_name, push_place};
 use crate::refused::Context;
 use crate::said::Said;
 use crate::topology::values_of;
@@ -68,22 +68,26 @@ pub(crate) fn add_unread_of_topology(
     for (number, link) in values_of(topology, "links").iter().enumerate() {
         let place = line.item("links", number);
         add_unread(alloc, warnings, place, link, link_members(), &[])?;
-        add_unread_of_end(alloc, warnings, place, link, "a")?;
-        add_unread_of_end(alloc, warnings, place, link, "b")?;
+        add_unread_of_end(alloc, warnings, line, number, link, "a")?;
+        add_unread_of_end(alloc, warnings, line, number, link, "b")?;
     }
     Ok(())
 }
 
-/// Adds a warning for each member of an end of a link that nobody reads.
+/// Adds a warning for each member of an end of the link of a number that nobody reads.
 fn add_unread_of_end(
     alloc: Global,
     warnings: &mut Vec<Said>,
-    place: Place<'_>,
+    line: Place<'_>,
+    number: usize,
     link: &Value,
     name: &'static str,
 ) -> Result<(), AllocError> {
     match link.get(name) {
-        Some(end) => add_unread(alloc, warnings, place.part(name), end, end_members(), &[]),
+        Some(end) => {
+            let place = line.link_end(number, name);
+            add_unread(alloc, warnings, place, end, end_members(), &[])
+        }
         None => Ok(()),
     }
 }

@@ -62,13 +62,13 @@ untold form = record { place = at_begin form; rest = [] }
 
 -- what is found in the next line, which has this reply, was added; or memory ran out, and nothing
 -- was
-abbrev pub TellsReply : Result (Unit {0}) RunFault → (reply : List ℕ) (old new : Tally)
+abbrev pub TellsReply : Result (Unit {0}) RunFault → (line reply : List ℕ) (old new : Tally)
     (held holds : Option (List ℕ)) → Type 0
-TellsReply (Ok done) reply old new held holds = (findings : List FindingValue)
-    × (IsTold (old.number + 1) reply findings
+TellsReply (Ok done) line reply old new held holds = (findings : List FindingValue)
+    × (IsTold (old.number + 1) line reply findings
     × (Appends held holds (all_written old.form findings) × (new ≡ with_told old 1 findings)))
-TellsReply (Err faults.Memory) reply old new held holds = Keeps held holds
-TellsReply (Err fault) reply old new held holds = ⊥
+TellsReply (Err faults.Memory) line reply old new held holds = Keeps held holds
+TellsReply (Err fault) line reply old new held holds = ⊥
 
 -- these lines were answered from a place on, and what is found in them was added to what was
 -- held; the run is at the second place then
@@ -77,7 +77,7 @@ pub record TellsLines (lines : List (List ℕ)) (old new : Place) (held holds : 
   pub replies : List (List ℕ)
   pub findings : List FindingValue
   pub replied : RepliesToAll All old.stage lines replies new.stage
-  pub told : AreTold (old.tally.number + 1) replies findings
+  pub told : AreTold (old.tally.number + 1) lines replies findings
   pub kept : Appends held holds (all_written old.tally.form findings)
   pub count : new.tally ≡ with_told old.tally (length replies) findings
 
@@ -89,7 +89,7 @@ pub record TellsSome (lines : List (List ℕ)) (old : Place) (held holds : Optio
   pub findings : List FindingValue
   pub most : ℕ
   pub replied : RepliesToAll All old.stage lines replies stage
-  pub told : AreTold (old.tally.number + 1) replies findings
+  pub told : AreTold (old.tally.number + 1) lines replies findings
   pub kept : Appends held holds (take most (all_written old.tally.form findings))
 
 -- the run of this place, ended by a refused topology

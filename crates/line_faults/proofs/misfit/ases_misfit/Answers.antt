@@ -1,0 +1,32 @@
+use Rattle.std.proofs.Common.{codes, length, option_map, refl, sym, ap, ◌∙◌, arith}
+use Rattle.std.proofs.lemmas.Option.{slice_get_read}
+use Rattle.event_lines.proofs.PolicyFormed.{first_there, none_so_far, none_there}
+use Rattle.line_faults.specs.Misfits.{as_misfit, item_site}
+use Rattle.line_faults.specs.inner.Meaning.{misfit_meant}
+use Rattle.line_faults.proofs.misfit.ases_misfit.Goals as goal
+
+pub loop-number-preserved : goal.loop-number-preserved
+loop-number-preserved c =
+    let all = c.args.ases.now in
+    let number = c.loop-number.number in
+    let one = c.index-ases-number.result in
+    let here = slice_get_read all (length all) number one refl c.loop-number-test.true
+    c.index-ases-number.is in
+    let none = sym c.as_misfit.ensures ∙ ap (λ o. option_map misfit_meant o) c.in_default.is in
+    none_so_far _ (λ k d. as_misfit (item_site (codes "ases") k) d) all number one here none c.loop-number.invariant
+
+pub returns-in-Some : goal.returns-in-Some
+returns-in-Some c =
+    let all = c.args.ases.now in
+    let number = c.loop-number.number in
+    let one = c.index-ases-number.result in
+    let here = slice_get_read all (length all) number one refl c.loop-number-test.true
+    c.index-ases-number.is in
+    let gives = sym c.as_misfit.ensures ∙ ap (λ o. option_map misfit_meant o) c.in-Some.is in
+    sym (first_there _ (λ k d. as_misfit (item_site (codes "ases") k) d) all number one (misfit_meant c.in-Some.misfit)
+    c.loop-number.invariant here gives)
+
+pub returns : goal.returns
+returns c =
+    sym (none_there _ (λ k d. as_misfit (item_site (codes "ases") k) d) c.args.ases.now (λ k one less there.
+    c.loop-number.invariant k one (omega (arith, less, c.loop-number-test.false)) there))

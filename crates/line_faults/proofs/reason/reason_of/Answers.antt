@@ -1,0 +1,12 @@
+use Rattle.std.proofs.Common.{◌≡◌, ◌==◌, false, sym, ◌∙◌}
+use Rattle.serde_json.specs.View.{view}
+use Rattle.line_faults.specs.Misfits.{refused_misfit}
+use Rattle.line_faults.proofs.Told.{meant_on}
+use Rattle.line_faults.proofs.reason.reason_of.Goals as goal
+
+pub returns : goal.returns
+returns c =
+    let later : (c.args.line.now.number == 1) ≡ false = sym c.is_topology.ensures ∙ c.if-is_topology.false in
+    rw (c.in-Some.is, later)
+    (meant_on c.or_unknown-2.result (refused_misfit false c.args.code (view c.in-Some.value.now)) c.push_event.new.why
+    c.or_unknown-2.ensures c.in_ok-push_event.ensures)
