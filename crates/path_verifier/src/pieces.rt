@@ -1,5 +1,10 @@
-ghost use Rattle.std.specs.Prelude.{◌≡◌, ◌==◌, ◌<◌, ◌≤◌, ◌↔◌, [], ◌∷◌, ◌++◌, length, slice_get, option_map, IfErr, IfSome, IsOk, IsSome, IsTrue, OnErr, OnOk};
+ghost use Rattle.std.specs.Prelude.{◌≡◌, ◌==◌, ℕ, ◌<◌, ◌≤◌, ◌↔◌, [], ◌∷◌, ◌++◌, length, slice_get, option_map, IfErr, IfSome, IsOk, IsSome, IsTrue, OnErr, OnOk};
 ghost use Rattle.std.specs.List.{AllByRecursion};
+ghost use Rattle.path_header.specs.Value.{HeaderValue};
+ghost use Rattle.policy_expr.specs.Policy.{Rules};
+ghost use Rattle.path_verifier.specs.declared.fault.VerifyFault.{VerifyFault};
+ghost use Rattle.path_verifier.specs.Fault.{code_of};
+ghost use Rattle.path_verifier.specs.Accepted.{IsRefused, Keeps, request_of};
 ghost use Rattle.path_verifier.specs.Piece.{HasRange};
 ghost use Rattle.path_verifier.specs.Header.{total_hops};
 ghost use Rattle.path_verifier.specs.PieceSlots.{pieces_in};
@@ -7,7 +12,8 @@ ghost use Rattle.path_verifier.specs.Turned.{turned_pieces};
 
 use crate::fault::VerifyFault;
 use crate::piece::Piece;
-use crate::shape::total_hops;
+use crate::shape::{check_shape, total_hops};
+use isd_as::IsdAs;
 use std::marker::Model;
 
 /// The pieces of a path in order of travel, at most three.
@@ -132,6 +138,18 @@ impl<'s> Pieces<'s> {
         ensures few { result ≤ 189 }
     {
         total_hops(&self.held)
+    }
+
+    /// Whether the pieces keep each rule from the first to the one on the number of hop fields, as
+    /// those of a path from `src` to `dst`; else the fault of the first that they break.
+    pub fn check_shape(&self, src: IsdAs, dst: IsdAs) -> Result<(), VerifyFault>
+        ensures kept { OnOk result ((header : HeaderValue) (now : ℕ) (rules : Rules)
+            (fault : VerifyFault) → code_of fault < 78
+            → Keeps (request_of self.now header src dst now rules) fault) }
+        ensures fault { IfErr result (λ fault. (header : HeaderValue) (now : ℕ) (rules : Rules)
+            → IsRefused (request_of self.now header src dst now rules) fault) }
+    {
+        check_shape(&self.held, src, dst)
     }
 
     /// The piece at this place in order of travel, from 0.

@@ -1,6 +1,6 @@
 #![tactic(auto, unfolding(crate::specs::Walk::hop_of, crate::specs::Walk::walk_of))]
 
-ghost use Rattle.std.specs.Prelude.{◌≡◌, ◌↔◌, ◌+◌, ◌<◌, ◌≤◌, [], ◌∷◌, ◌++◌, length, map, drop, slice_get, IsTrue, Some};
+ghost use Rattle.std.specs.Prelude.{◌≡◌, ◌↔◌, ◌+◌, ◌<◌, ◌≤◌, [], ◌∷◌, ◌++◌, length, map, drop, slice_get, take, IsTrue, Some};
 ghost use Rattle.std.specs.List.{AllByRecursion};
 ghost use Rattle.path_verifier.specs.PieceSlots.{pieces_in};
 ghost use Rattle.path_verifier.specs.Piece.{HasRange};
@@ -74,6 +74,21 @@ impl Walk {
         self.len = 0;
     }
 
+    /// Takes the hops behind the first `len` out; the last one is then left by no interface.
+    pub fn shorten(&mut self, len: usize)
+        ensures { self.new ≡ left_by 0 (take len self.old) }
+    {
+        self.len = self.len.min(len);
+        self.leave_by(IfId::NONE);
+    }
+
+    /// Whether no two hops are of one AS.
+    pub fn names_once(&self) -> bool
+        ensures { IsTrue result ↔ NamesOnce self.now }
+    {
+        names_once(self.as_slice())
+    }
+
     /// The hops, in order.
     pub fn as_slice(&self) -> &[WalkHop]
         ensures value { result.now ≡ self.now }
@@ -83,7 +98,7 @@ impl Walk {
     }
 
     /// The number of hops.
-    fn len(&self) -> usize
+    pub fn len(&self) -> usize
         ensures { result ≡ length self.now }
     {
         self.as_slice().len()
@@ -188,6 +203,17 @@ impl Walk {
         self.push_later(piece);
     }
 
+    /// Goes on with one more piece: the walk of some pieces becomes that of these and one more.
+    pub fn go_on_by(&mut self, piece: &Piece<'_>)
+        requires range { HasRange piece.now }
+        requires few { length self.old + len_of piece.now ≤ 64 }
+        ensures walk { self.new ≡ left_by 0 (entered_by 0 (walk_with self.old (hops_of piece.now))) }
+    {
+        self.go_on(piece);
+        self.enter_by(IfId::NONE);
+        self.leave_by(IfId::NONE);
+    }
+
     /// Makes a walk of no hops the walk of these pieces.
     pub(crate) fn follow(&mut self, held: &PieceSlots<'_>)
         requires empty { self.old ≡ [] }
@@ -224,7 +250,6 @@ pub(crate) fn names_once(hops: &[WalkHop]) -> bool
 
 /// Whether two of these hops are of one AS. A few are compared with each other; of more the numbers
 /// are sorted.
-#[inline(always)]
 #[tactic(auto, using(crate::proofs::Once::doubles_are_twice))]
 fn names_twice(hops: &[WalkHop]) -> bool
     requires { length hops.now ≤ 64 }
@@ -258,7 +283,6 @@ fn is_passed(hops: &[WalkHop], ia: IsdAs) -> bool
 }
 
 /// The numbers of the ASes of these hops.
-#[inline(always)]
 fn numbers_of(hops: &[WalkHop]) -> ArrayVec<u128, MAX_HOPS>
     requires { length hops.now ≤ 64 }
     ensures { result.items ≡ map (λ hop. hop.ia) hops.now }
