@@ -1,15 +1,12 @@
 -- Gathering the walks of lists of groups.
-use Rattle.std.proofs.Common.{◌≡◌, ℕ, ◌<◌, ◌≤◌, List, [], ◌∷◌, ◌++◌, length, All, Contains, sym, ap, subst, ◌∙◌, inl, inr, arith}
-use Rattle.std.specs.Prelude.{◌⊎◌}
+use Rattle.std.proofs.Common.{◌≡◌, ℕ, ◌<◌, List, [], ◌∷◌, ◌++◌, length, All, Contains, subst, inl, inr, arith}
 use Rattle.std.specs.List.{AllByRecursion}
-use Rattle.path_header.specs.Value.{HeaderValue}
 use Rattle.policy_expr.specs.declared.hop.WalkHop.{WalkHop}
-use Rattle.path_verifier.specs.Piece.{PieceValue}
 use Rattle.path_verifier.specs.Walk.{walk_of}
-use Rattle.combinator.specs.Candidate.{Question, PathValue, IsCandidate, path_with}
-use Rattle.combinator.specs.Walks.{AreWalks, IsWalkOf}
+use Rattle.combinator.specs.Candidate.{Question, PathValue, IsCandidate}
+use Rattle.combinator.specs.Walks.{AreWalks}
 use Rattle.combinator.specs.inner.Gathered.{AreGathered, HasWalk, IsListed, StillList}
-use Rattle.combinator.specs.inner.Group.{GroupValue, IsGroup, AreOf, heads_of}
+use Rattle.combinator.specs.inner.Group.{GroupValue, IsGroup, heads_of}
 use Rattle.combinator.specs.inner.Over.{MaySearch, OfChoices, OfEachOver}
 use Rattle.combinator.proofs.Answering.{of_candidate}
 use Rattle.combinator.proofs.Facts.{HaveNoCandidate}

@@ -60,14 +60,24 @@ module _ (pieces : List PieceValue) (start count : ℕ) (old new : List GroupVal
       (λ piece there. of_rest start pieces piece (of_taken (drop start pieces) count piece
       (subst (λ (ps : List PieceValue). Contains ps piece) own_pieces there))))
 
--- all groups, in another order
-pub are_groups_of : (groups others : List GroupValue) (pieces : List PieceValue) (start : ℕ) → length pieces ≤ start
+-- all groups
+pub are_groups_of : (groups : List GroupValue) (pieces : List PieceValue) (start : ℕ) → length pieces ≤ start
     → All IsGroup groups → AreGrouped groups (take start pieces) → All (λ (group : GroupValue). AreIn group.pieces pieces) groups
-    → IsPermutation groups others → AreGroupsOf others pieces
-are_groups_of groups others pieces start past each grouped own same = record {
-  each = All-permutation IsGroup groups others same each;
+    → AreGroupsOf groups pieces
+are_groups_of groups pieces start past each grouped own = record {
+  each = each;
   grouped = λ piece there.
-      (let found = grouped piece (subst (λ (ps : List PieceValue). Contains ps piece) (sym (take_past pieces start past)) there) in
+      grouped piece (subst (λ (ps : List PieceValue). Contains ps piece) (sym (take_past pieces start past)) there);
+  within = own;
+}
+
+-- the same in another order
+pub in_other_order : (groups others : List GroupValue) (pieces : List PieceValue) → AreGroupsOf groups pieces
+    → IsPermutation groups others → AreGroupsOf others pieces
+in_other_order groups others pieces are same = record {
+  each = All-permutation IsGroup groups others same are.each;
+  grouped = λ piece there.
+      (let found = are.grouped piece there in
       (found.0, Contains-permutation groups others found.0 same found.1, found.2));
-  within = All-permutation (λ (group : GroupValue). AreIn group.pieces pieces) groups others same own;
+  within = All-permutation (λ (group : GroupValue). AreIn group.pieces pieces) groups others same are.within;
 }

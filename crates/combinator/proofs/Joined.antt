@@ -52,7 +52,7 @@ meets_left way first (next ∷ rest) hop = left_left hop.egress way (first ∷ n
 pub closed_left : (way : ℕ) (hops : List WalkHop) → closed (left_by way hops) ≡ closed hops
 closed_left way hops = ap (left_by 0) (entered_left 0 way hops) ∙ left_left 0 way (entered_by 0 hops)
 
-closed_closed : (hops : List WalkHop) → closed (closed hops) ≡ closed hops
+pub closed_closed : (hops : List WalkHop) → closed (closed hops) ≡ closed hops
 closed_closed hops = closed_left 0 (entered_by 0 hops) ∙ ap (left_by 0) (entered_entered 0 0 hops)
 
 -- joining looks at closed hops alone

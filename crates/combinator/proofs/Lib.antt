@@ -47,3 +47,4 @@ pub mod Wanted
 pub mod Listing
 pub mod Stepping
 pub mod Gathered
+pub mod Growing

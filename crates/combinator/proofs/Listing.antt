@@ -1,8 +1,7 @@
 -- A walk in a list of walks in order: where it is found, and what an insertion keeps.
-use Rattle.std.proofs.Common.{◌≡◌, ℕ, zero, suc, ◌+◌, ◌<◌, ◌≤◌, List, [], ◌∷◌, ◌++◌, length, get_or, take, drop, insert, map, All, AllPairs, Contains, refl, sym, ap, subst, ◌∙◌, inl, inr, arith}
+use Rattle.std.proofs.Common.{◌≡◌, ℕ, zero, suc, ◌+◌, ◌<◌, ◌≤◌, List, [], ◌∷◌, length, get_or, take, drop, insert, map, All, AllPairs, Contains, refl, sym, ap, subst, ◌∙◌, inl, inr, arith}
 use Rattle.std.specs.Prelude.{◌⊎◌, Vec}
 use Rattle.std.specs.declared.alloc.Global.{Global}
-use Rattle.std.specs.List.{AllByRecursion}
 use Rattle.std.specs.declared.cmp.Ordering.TheVariants.{Less, Equal}
 use Rattle.std.proofs.lemmas.List.{get_or-map}
 use Rattle.std.proofs.lemmas.List.Elements.{All-append, All-cons, All-take, All-drop, All-from_recursion}
@@ -11,7 +10,7 @@ use Rattle.policy_expr.specs.declared.hop.WalkHop.{WalkHop}
 use Rattle.combinator.specs.Order.{walk_cmp}
 use Rattle.combinator.specs.inner.Gathered.{hops_in}
 use Rattle.combinator.specs.inner.Placed.{InOrder, IsGap}
-use Rattle.combinator.proofs.Inserted.{Placed, placed_of, order_inserted, put, put_insert, length_put}
+use Rattle.combinator.proofs.Inserted.{placed_of, order_inserted, put, put_insert, length_put}
 use Rattle.combinator.proofs.Ranks.{same_walk, walk_total}
 
 pub length_seen : (walks : List (Vec WalkHop Global)) → length (hops_in walks) ≡ length walks

@@ -1,18 +1,20 @@
 -- Which lists of groups the search passes over.
-use Rattle.std.proofs.Common.{◌≡◌, ℕ, ◌≤◌, List, [], ◌∷◌, ◌++◌, length, All, refl, sym, ap, subst, ◌∙◌, arith, append_assoc}
+use Rattle.std.proofs.Common.{◌≡◌, ℕ, ◌<◌, ◌≤◌, List, [], ◌∷◌, ◌++◌, length, All, refl, sym, ap, subst, ◌∙◌, arith, append_assoc}
 use Rattle.std.specs.List.{AllByRecursion}
+use Rattle.std.proofs.lemmas.List.Sums.{sum_by-cons}
 use Rattle.path_verifier.specs.Piece.{PieceValue, ends_in, kind_of}
 use Rattle.path_verifier.specs.Accepted.{DoEndIn, MayAdjoin}
+use Rattle.path_verifier.specs.Header.{len_of, total_hops}
 use Rattle.path_verifier.proofs.Breaches.{path_kept}
 use Rattle.combinator.specs.Candidate.{Question, PathValue}
 use Rattle.combinator.specs.inner.Alike.{AreAlike, IsUsable}
-use Rattle.combinator.specs.inner.Group.{GroupValue, IsGroup, AreOf}
+use Rattle.combinator.specs.inner.Group.{GroupValue, IsGroup, AreOf, heads_of}
 use Rattle.combinator.specs.inner.Over.{OfChoices, OfEachOver}
 use Rattle.combinator.specs.inner.Search.{AreBefore, IsMetBy, StillMeet}
 use Rattle.combinator.proofs.Alike.{ends_alike}
 use Rattle.combinator.proofs.Before.{met_later}
 use Rattle.combinator.proofs.Choices.{of_group}
-use Rattle.combinator.proofs.Facts.{HaveNoCandidate, kinds_apart, none_behind_end, split_of}
+use Rattle.combinator.proofs.Facts.{HaveNoCandidate, kinds_apart, none_behind_end, split_of, too_long}
 use Rattle.combinator.proofs.Prefix.{both_groups, over_all}
 use Rattle.combinator.proofs.Tried.{ends_with, met_on, one_end}
 use Rattle.combinator.proofs.Trying.{WasTriedOver}
@@ -40,6 +42,19 @@ module _ (P : List GroupValue → Type 0) (groups : List GroupValue) (are : All 
 abbrev pub HoldsWithout : Question → (List PieceValue → Type 0) → Type 0
 HoldsWithout question fact = (groups : List GroupValue) → HaveNoCandidate question groups → OfChoices fact groups
 
+-- with more groups there are more hop fields
+more_hops : (front later : List GroupValue) (group : GroupValue)
+    → total_hops (heads_of (front ++ group ∷ [])) ≤ total_hops (heads_of (front ++ group ∷ later))
+more_hops [] later group =
+    let one = sum_by-cons len_of group.head [] in
+    let all = sum_by-cons len_of group.head (heads_of later) in
+    omega (arith, one, all)
+more_hops (first ∷ front) later group =
+    let one = sum_by-cons len_of first.head (heads_of (front ++ group ∷ [])) in
+    let all = sum_by-cons len_of first.head (heads_of (front ++ group ∷ later)) in
+    let more = more_hops front later group in
+    omega (arith, one, all, more)
+
 module _ (question : Question) (fact : List PieceValue → Type 0) (without : HoldsWithout question fact)
     (groups : List GroupValue) (are : All IsGroup groups)
     (front : List GroupValue) (group : GroupValue) (front_are : AllByRecursion IsGroup front) (is : IsGroup group) where
@@ -56,6 +71,15 @@ module _ (question : Question) (fact : List PieceValue → Type 0) (without : Ho
       (without (before ++ last ∷ group ∷ later)
       (kinds_apart question before later last group
       (subst (AllByRecursion IsGroup) same (both_groups front (group ∷ later) front_are (is, also))) never)))
+
+  -- groups with more hop fields than a path may have
+  pub too_many : 64 < total_hops (heads_of (front ++ group ∷ [])) → (depth at : ℕ)
+      → WasTriedOver (OfChoices fact) groups depth front at group
+  too_many many =
+      each_tried (OfChoices fact) groups are front group
+      (λ later also. without (front ++ group ∷ later)
+      (too_long question (front ++ group ∷ later) (both_groups front (group ∷ later) front_are (is, also))
+      (let more = more_hops front later group in omega (arith, many, more))))
 
   -- lists that go on from the destination
   pub behind_end : ends_in group.head ≡ question.dst → (depth at : ℕ)

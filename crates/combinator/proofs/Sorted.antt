@@ -1,5 +1,5 @@
 -- The order of groups: what is sorted by it is sorted by the ASes in which groups begin.
-use Rattle.std.proofs.Common.{◌≡◌, ℕ, ◌<◌, true, false, List, get_or, is_lt, refl, sym, ◌∙◌, inl, inr}
+use Rattle.std.proofs.Common.{◌≡◌, ℕ, ◌<◌, Bool, true, false, List, get_or, is_lt, refl, sym, ◌∙◌, inl, inr}
 use Rattle.std.specs.Cmp.{IsTotalOrder, IsStrictWeakOrder}
 use Rattle.std.specs.List.Sorted.{IsSortedBy, IsNonDecreasingBy}
 use Rattle.std.specs.Ordering.{nat_cmp, ordering_then}
@@ -27,14 +27,27 @@ begins_earlier : (one other : PieceValue) → begins_in one < begins_in other �
 unfolding piece_cmp
 begins_earlier one other = less_first (begins_in one) (begins_in other) _
 
-pub begins_rise : (groups : List GroupValue) → IsSortedBy (λ one other. is_lt (piece_cmp one.head other.head)) groups
-    → IsNonDecreasingBy group_begins groups
-begins_rise groups sorted i j d upward within =
+pub group_earlier : (one other : GroupValue) → group_begins one < group_begins other
+    → is_lt (piece_cmp one.head other.head) ≡ true
+group_earlier one other = begins_earlier one.head other.head
+
+-- the order by the ASes in which groups begin alone
+pub begins_ranks : IsStrictWeakOrder (λ (one other : GroupValue). is_lt (nat_cmp (group_begins one) (group_begins other)))
+begins_ranks = ranks_by nat_cmp_total group_begins
+
+pub begins_less : (one other : GroupValue) → group_begins one < group_begins other
+    → is_lt (nat_cmp (group_begins one) (group_begins other)) ≡ true
+begins_less one other less = rw (lt-ltb (group_begins one) (group_begins other) less) refl
+
+-- an order that puts a group before those that begin in greater ASes
+pub begins_rise : (R : GroupValue → GroupValue → Bool) → IsStrictWeakOrder R
+    → ((one other : GroupValue) → group_begins one < group_begins other → R one other ≡ true)
+    → (groups : List GroupValue) → IsSortedBy R groups → IsNonDecreasingBy group_begins groups
+begins_rise R ranks earlier groups sorted i j d upward within =
     let one = get_or groups i d in
     let other = get_or groups j d in
     elim (cases_lt (group_begins other) (group_begins one)) [
       | inl less ↦ absurd
-          (let both : true ≡ false = sym (begins_earlier other.head one.head less)
-          ∙ sorted_far (λ (a b : GroupValue). is_lt (piece_cmp a.head b.head)) group_ranks groups sorted i j d upward within in cc)
+          (let both : true ≡ false = sym (earlier other one less) ∙ sorted_far R ranks groups sorted i j d upward within in cc)
       | inr upto ↦ upto
     ]

@@ -1,12 +1,13 @@
 -- One more group of those that begin here is tried.
-use Rattle.std.proofs.Common.{◌≡◌, ℕ, ◌+◌, ◌<◌, List, [], ◌∷◌, ◌++◌, length, get_or, take, filter, Contains, refl, sym, subst}
+use Rattle.std.proofs.Common.{◌≡◌, ℕ, ◌+◌, ◌<◌, List, [], ◌∷◌, ◌++◌, length, get_or, take, filter, Contains, sym, subst}
 use Rattle.path_verifier.specs.Piece.{PieceValue, ends_in, kind_of}
 use Rattle.path_verifier.specs.Accepted.{MayAdjoin}
 use Rattle.combinator.specs.Candidate.{Question}
-use Rattle.combinator.specs.inner.Group.{GroupValue, IsGroup, begins_with}
+use Rattle.path_verifier.specs.Header.{total_hops}
+use Rattle.combinator.specs.inner.Group.{GroupValue, IsGroup, begins_with, heads_of}
 use Rattle.combinator.specs.inner.Over.{AreFor, MaySearch, OfChoices, OfEachOver}
 use Rattle.combinator.proofs.Over.{group_there}
-use Rattle.combinator.proofs.Passing.{HoldsWithout, barred, behind_end, elsewhere}
+use Rattle.combinator.proofs.Passing.{HoldsWithout, barred, behind_end, elsewhere, too_many}
 use Rattle.combinator.proofs.Trying.{WasTriedOver, none_tried, of_part, tried_here, tried_more}
 
 module _ (question : Question) (groups : List GroupValue) (search : MaySearch question groups)
@@ -35,6 +36,11 @@ module _ (question : Question) (groups : List GroupValue) (search : MaySearch qu
         → ¬ (MayAdjoin (kind_of last.head) (kind_of group.head)) → WereTried
     barred_tried first last ends never =
         one_tried (barred question after without groups search.are.each front group front_for.are here_is first last ends never left at)
+
+    -- with it there are more hop fields than a path may have
+    pub too_many_tried : 64 < total_hops (heads_of (front ++ group ∷ [])) → WereTried
+    too_many_tried many =
+        one_tried (too_many question after without groups search.are.each front group front_for.are here_is many left at)
 
     -- it ends in the destination
     pub end_tried : ends_in group.head ≡ question.dst → (longer : List GroupValue) → longer ≡ front ++ group ∷ []

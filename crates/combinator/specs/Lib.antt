@@ -5,4 +5,5 @@ pub mod Answer
 pub mod Walks
 pub mod Lasting
 pub mod Choice
+pub mod Combiner
 pub mod inner

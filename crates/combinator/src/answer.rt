@@ -4,11 +4,11 @@ ghost use Rattle.combinator.specs.Candidate.{AreSpelled, IsCandidate, path_with,
 ghost use Rattle.combinator.specs.Answer.{IsAnswer};
 ghost use Rattle.combinator.specs.inner.Over.{MaySearch};
 
+use crate::combiner::Combiner;
 use crate::found::Found;
 use crate::groups::Groups;
 use crate::request::PathRequest;
 use crate::search::first_paths;
-use crate::usable_pieces::usable_pieces_of;
 use isd_as::IsdAs;
 use path_server::SegmentSet;
 use path_verifier::VerifiedPath;
@@ -99,15 +99,8 @@ pub fn paths_between<'s, 'p, A: Allocator + Clone>(
     ensures spelled { OnOk result
         (AreSpelled (question_of set.entry.now src dst policy.entry.now)) }
 {
-    let ask = PathRequest {
-        set,
-        src,
-        dst,
-        policy,
-    };
-    let pieces = usable_pieces_of(alloc, set, src, dst)?;
-    let groups = Groups::of(alloc, &pieces)?;
-    answer(alloc, &ask, &groups, limit)
+    let combiner = Combiner::of(alloc, set, src, dst)?;
+    combiner.paths(alloc, policy, limit)
 }
 
 /// The answer to a question, of these groups.

@@ -1,6 +1,7 @@
 //! Groups of pieces that put the same hops into a walk.
 
 ghost use Rattle.std.specs.Prelude.{◌≡◌, ◌≢◌, ◌⊎◌, ◌<◌, ◌≤◌, [], ◌∷◌, ◌++◌, length, All, Contains, IfNone, IfSome, IsFalse, List};
+ghost use Rattle.std.specs.Ordering.{nat_cmp};
 ghost use Rattle.std.specs.declared.cmp.Ordering.TheVariants.{Greater};
 ghost use Rattle.policy_expr.specs.declared.hop.WalkHop.{WalkHop};
 ghost use Rattle.path_verifier.specs.Piece.{PieceValue, begins_in, ends_in, kind_of};
@@ -132,6 +133,18 @@ impl<'a, 's> Group<'a, 's> {
         ensures { result ≡ piece_cmp self.now.head other.now.head }
     {
         self.head.compare(other.head)
+    }
+
+    /// Compares this group with another one by the ASes in which they begin.
+    pub(crate) fn compare_begins(&self, other: &Group<'_, '_>) -> Ordering
+        ensures { result ≡ nat_cmp (begins_in self.now.head) (begins_in other.now.head) }
+    {
+        self.begins().number().cmp(&other.begins().number())
+    }
+
+    /// A number by which groups from one AS stand in the order of their first two hops.
+    pub(crate) fn walk_key(&self) -> u128 {
+        self.head.walk_key()
     }
 
     /// Whether a walk goes on, from the hop at this place, by the hops of the group.

@@ -1,6 +1,6 @@
 //! All groups of a request.
 
-ghost use Rattle.std.specs.Prelude.{◌≡◌, ◌<◌, ◌≤◌, length, filter, take, All, IfOk, Some, slice_get};
+ghost use Rattle.std.specs.Prelude.{◌≡◌, ◌<◌, ◌≤◌, length, filter, take, All, IfOk, OnOk, Some, slice_get};
 ghost use Rattle.std.specs.List.{AllWithin};
 ghost use Rattle.std.specs.List.Sorted.{IsNonDecreasingBy, IsPermutation};
 ghost use Rattle.path_verifier.specs.Piece.{PieceValue};
@@ -33,22 +33,27 @@ impl<'a, 's> Model for Groups<'a, 's> {
 }
 
 impl<'a, 's> Groups<'a, 's> {
-    /// The groups of these pieces: those that are alike and stand side by side.
+    /// The groups of these pieces, in the order in which a search for the first paths takes them.
     pub(crate) fn of(
         alloc: Global,
         pieces: &'a [UsablePiece<'s>],
     ) -> Result<Groups<'a, 's>, AllocError>
         ensures { IfOk result (λ groups. AreGroupsOf groups pieces.entry.now) }
     {
-        let mut sorted = Vec::new(alloc);
-        let mut start = 0;
-        while start < pieces.len() {
-            let rest = &pieces[start..];
-            let count = count_alike(rest);
-            sorted.push(Group::of(&rest[0], &rest[..count]))?;
-            start += count;
-        }
+        let mut sorted = groups_of(alloc, pieces)?;
         put_in_order(&mut sorted);
+        Ok(Groups { sorted })
+    }
+
+    /// The groups of these pieces, in an order in which walks are met nearly in order.
+    pub(crate) fn in_walk_order(
+        alloc: Global,
+        pieces: &'a [UsablePiece<'s>],
+    ) -> Result<Groups<'a, 's>, AllocError>
+        ensures { IfOk result (λ groups. AreGroupsOf groups pieces.entry.now) }
+    {
+        let mut sorted = groups_of(alloc, pieces)?;
+        put_in_walk_order(&mut sorted)?;
         Ok(Groups { sorted })
     }
 
@@ -58,6 +63,24 @@ impl<'a, 's> Groups<'a, 's> {
     {
         part_from(&self.sorted, at)
     }
+}
+
+/// The groups of these pieces: those that are alike and stand side by side.
+fn groups_of<'a, 's>(
+    alloc: Global,
+    pieces: &'a [UsablePiece<'s>],
+) -> Result<Vec<Group<'a, 's>>, AllocError>
+    ensures { IfOk result (λ groups. AreGroupsOf groups.items pieces.entry.now) }
+{
+    let mut groups = Vec::new(alloc);
+    let mut start = 0;
+    while start < pieces.len() {
+        let rest = &pieces[start..];
+        let count = count_alike(rest);
+        groups.push(Group::of(&rest[0], &rest[..count]))?;
+        start += count;
+    }
+    Ok(groups)
 }
 
 /// The number of pieces from the first one on that are like the first one.
@@ -84,6 +107,16 @@ fn put_in_order(groups: &mut Vec<Group<'_, '_>>)
     ensures sorted { IsNonDecreasingBy group_begins groups.new.items }
 {
     groups.sort_unstable_by(|one, other| one.compare(other));
+}
+
+/// Puts groups in the order of the ASes in which they begin, and those of one AS in the order of
+/// their hops.
+fn put_in_walk_order(groups: &mut Vec<Group<'_, '_>>) -> Result<(), AllocError>
+    ensures same { IsPermutation groups.old.items groups.new.items }
+    ensures sorted { OnOk result (IsNonDecreasingBy group_begins groups.new.items) }
+{
+    groups.sort_by_cached_key(|group| group.walk_key())?;
+    groups.sort_by(|one, other| one.compare_begins(other))
 }
 
 /// The part of sorted groups that begin in this AS.

@@ -1,6 +1,7 @@
 ghost use Rattle.std.specs.Prelude.{◌≡◌, ◌↔◌, All, IsTrue};
 ghost use Rattle.path_verifier.specs.Walk.{walk_of};
-ghost use Rattle.path_verifier.specs.Accepted.{MakesPath};
+ghost use Rattle.path_verifier.specs.Accepted.{AreLive, MakesPath, NamesOnce};
+ghost use Rattle.path_verifier.specs.Header.{header_of};
 ghost use Rattle.combinator.specs.Answer.{question_under};
 ghost use Rattle.combinator.specs.Candidate.{IsCandidate, IsOf, path_with};
 ghost use Rattle.combinator.specs.inner.Choice.{Allows};
@@ -8,7 +9,7 @@ ghost use Rattle.combinator.specs.inner.Choice.{Allows};
 use crate::found::Found;
 use isd_as::IsdAs;
 use path_server::SegmentSet;
-use path_verifier::{VerifiedPath, Walk, accept};
+use path_verifier::{Pieces, VerifiedPath, Walk, accept};
 use policy_expr::{Policy, PolicyOption, WalkHop};
 use std::alloc::Allocator;
 use std::marker::Model;
@@ -55,6 +56,29 @@ impl<'s, 'p, A: Allocator + Clone> PathRequest<'s, 'p, A> {
     {
         found.known();
         if !self.makes_path(walk, found) {
+            return false;
+        }
+        allows(self.policy, walk.as_slice())
+    }
+
+    /// Whether live pieces of the set, with this walk, are a path that may be sent.
+    pub(crate) fn may_send_live(&self, pieces: &Pieces<'_>, walk: &Walk) -> bool
+        requires own { All (IsOf self.now.set) pieces.now }
+        requires live { AreLive self.now.set.moment pieces.now }
+        requires walk { walk.now ≡ walk_of pieces.now }
+        ensures { IsTrue result ↔ IsCandidate self.now (path_with pieces.now (header_of pieces.now)) }
+    {
+        match pieces.check_shape(self.src, self.dst) {
+            Ok(()) => self.allows_once(walk),
+            Err(_) => false,
+        }
+    }
+
+    /// Whether a walk passes no AS twice and the policy allows it.
+    fn allows_once(&self, walk: &Walk) -> bool
+        ensures { IsTrue result ↔ (NamesOnce walk.now × Allows self.now.rules walk.now) }
+    {
+        if !walk.names_once() {
             return false;
         }
         allows(self.policy, walk.as_slice())

@@ -167,6 +167,15 @@ impl<'s> UsablePiece<'s> {
             .then(self.info.cmp(&other.info))
     }
 
+    /// A number by which pieces from one AS stand in the order of their first two hops.
+    pub(crate) fn walk_key(&self) -> u128 {
+        let (first, second) = (self.piece.hop(0), self.piece.hop(1));
+        (u128::from(first.egress.0) << 96)
+            | (u128::from(second.ia.number()) << 32)
+            | (u128::from(second.ingress.0) << 16)
+            | u128::from(second.egress.0)
+    }
+
     /// Compares this piece with another one in the order of the search: by the AS in which it
     /// begins, then by its rank, then by its info field.
     #[tactic(auto, unfolding(crate::specs::inner::UsablePieces::piece_cmp))]

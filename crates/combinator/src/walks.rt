@@ -5,24 +5,26 @@
 
 ghost use Rattle.std.specs.Prelude.{◌≡◌, ◌↔◌, ◌+◌, ◌<◌, ◌≤◌, [], length, All, Contains, IfNone, IfOk, IfSome, IsTrue, OnOk, List, option_map, slice_get};
 ghost use Rattle.policy_expr.specs.declared.hop.WalkHop.{WalkHop};
-ghost use Rattle.combinator.specs.Candidate.{Question, question_of};
+ghost use Rattle.combinator.specs.Candidate.{Question};
 ghost use Rattle.combinator.specs.Order.{walk_cmp};
 ghost use Rattle.combinator.specs.Walks.{AreWalks, IsWalkOf};
 ghost use Rattle.combinator.specs.inner.Front.{groups_in};
-ghost use Rattle.combinator.specs.inner.Gathered.{AreGathered, IsListed, StillList, hops_in};
+ghost use Rattle.path_verifier.specs.Walk.{walk_of};
+ghost use Rattle.path_verifier.specs.Header.{total_hops};
+ghost use Rattle.combinator.specs.inner.Gathered.{AreGathered, GoesOnTo, IsListed, StillList, hops_in};
+ghost use Rattle.combinator.specs.inner.Group.{heads_of};
 ghost use Rattle.combinator.specs.inner.Over.{AreFor, MaySearch, OfChoices, OfEachOver};
 ghost use Rattle.combinator.specs.inner.Placed.{InOrder, IsGap};
 
-use crate::found::{Found, compare_walks};
+use crate::found::compare_walks;
 use crate::front::Front;
+use crate::group::Group;
 use crate::groups::Groups;
 use crate::request::PathRequest;
-use crate::usable_pieces::usable_pieces_of;
 use isd_as::IsdAs;
 use path_header::MAX_HOPS;
-use path_server::SegmentSet;
 use path_verifier::Walk;
-use policy_expr::{Policy, WalkHop};
+use policy_expr::WalkHop;
 use std::alloc::{AllocError, Allocator, Global};
 use std::cmp::Ordering;
 use std::marker::Model;
@@ -79,46 +81,15 @@ struct Gathering<'g, 'a, 's, 'p, A: Allocator + Clone> {
     limit: usize,
 }
 
-/// The walks of the paths from `src` to `dst` that can be made of the segments of a set and may be
-/// sent at the set's second under a policy: all of them, or `limit` of them if there are as many.
-///
-/// It costs what [`paths_between`](crate::paths_between) does for pieces and groups. Then each list
-/// of groups that meet takes h steps of the verifier for its h hops, and what the policy takes,
-/// until there are `limit` walks. The memory is that of pieces, groups and walks.
-///
-/// [`AllocError`] if memory runs out.
-pub fn walks_between<A: Allocator + Clone>(
-    alloc: Global,
-    set: &SegmentSet,
-    src: IsdAs,
-    dst: IsdAs,
-    policy: &Policy<A>,
-    limit: usize,
-) -> Result<Walks, AllocError>
-    ensures { IfOk result
-        (AreWalks (question_of set.entry.now src dst policy.entry.now) limit) }
-{
-    let ask = PathRequest {
-        set,
-        src,
-        dst,
-        policy,
-    };
-    let pieces = usable_pieces_of(alloc, set, src, dst)?;
-    let groups = Groups::of(alloc, &pieces)?;
-    let walks = gathered(alloc, &ask, &groups, limit)?;
-    Ok(Walks { walks })
-}
-
-/// The walks of a request, of these groups.
-fn gathered<'g, 'a, 's, 'p, A: Allocator + Clone>(
+/// The walks of a request, of these groups: all of them, or `limit` of them if there are as many.
+pub(crate) fn gathered<'g, 'a, 's, 'p, A: Allocator + Clone>(
     alloc: Global,
     ask: &'g PathRequest<'s, 'p, A>,
     groups: &'g Groups<'a, 's>,
     limit: usize,
-) -> Result<Vec<Vec<WalkHop>>, AllocError>
+) -> Result<Walks, AllocError>
     requires { MaySearch ask.now groups.now }
-    ensures { IfOk result (λ walks. AreWalks ask.entry.now limit (hops_in walks.items)) }
+    ensures { IfOk result (AreWalks ask.entry.now limit) }
 {
     let gathering = Gathering {
         alloc,
@@ -127,13 +98,15 @@ fn gathered<'g, 'a, 's, 'p, A: Allocator + Clone>(
         limit,
     };
     let mut walks = Vec::new(alloc);
-    gathering.try_behind(&mut walks, &mut Walk::new(), &Front::Zero, ask.src, 3)?;
-    Ok(walks)
+    let mut walk = Walk::new();
+    gathering.try_behind(&mut walks, &mut walk, &Front::Zero, ask.src, 3)?;
+    Ok(Walks { walks })
 }
 
 impl<'g, 'a, 's, 'p, A: Allocator + Clone> Gathering<'g, 'a, 's, 'p, A> {
     /// Adds the walks of the paths that begin with pieces of these groups and go on, from the AS
-    /// `at`, with pieces of one to `depth` more. The room of a walk is for each of them in turn.
+    /// `at`, with pieces of one to `depth` more. The walk of these groups goes on by each of them in
+    /// turn.
     fn try_behind(
         &self,
         walks: &mut Vec<Vec<WalkHop>>,
@@ -145,8 +118,10 @@ impl<'g, 'a, 's, 'p, A: Allocator + Clone> Gathering<'g, 'a, 's, 'p, A> {
         requires search { MaySearch self.now.ask.now self.now.groups.now }
         requires gathered { AreGathered self.now.ask.now self.now.limit (hops_in walks.old.items) }
         requires front { AreFor self.now.ask.now (groups_in front.now) }
+        requires walk { walk.old ≡ walk_of (heads_of (groups_in front.now)) }
         requires some { 0 < depth }
         requires few { length (groups_in front.now) + depth ≤ 3 }
+        ensures walk { OnOk result (walk.new ≡ walk.old) }
         ensures gathered { OnOk result
             (AreGathered self.now.ask.now self.now.limit (hops_in walks.new.items)) }
         ensures still { OnOk result
@@ -156,6 +131,7 @@ impl<'g, 'a, 's, 'p, A: Allocator + Clone> Gathering<'g, 'a, 's, 'p, A> {
             self.now.groups.now depth (groups_in front.now) at) }
     {
         let (ask, groups) = (self.ask, self.groups);
+        let len = walk.len();
         let next_groups = groups.groups_from(at);
         for group in next_groups {
             if walks.len() == self.limit {
@@ -165,30 +141,39 @@ impl<'g, 'a, 's, 'p, A: Allocator + Clone> Gathering<'g, 'a, 's, 'p, A> {
                 continue;
             }
             let longer = front.with(group);
+            if longer.hop_count() > MAX_HOPS {
+                continue;
+            }
             let end = group.ends();
             if end == ask.dst {
-                self.add_walk(walks, walk, &longer)?;
+                self.add_walk(walks, walk, group, &longer)?;
                 continue;
             }
             if depth == 1 {
                 continue;
             }
+            walk.go_on_by(&group.head().piece());
             self.try_behind(walks, walk, &longer, end, depth - 1)?;
+            walk.shorten(len);
         }
         Ok(())
     }
 
-    /// Adds the walk of the paths of these groups, if they may be sent, and makes a walk theirs.
+    /// Adds the walk of the paths of these groups, if they may be sent: it goes on by the last of
+    /// them from the walk of the others.
     fn add_walk(
         &self,
         walks: &mut Vec<Vec<WalkHop>>,
         walk: &mut Walk,
+        group: &Group<'_, '_>,
         front: &Front<'g, 'a, 's>,
     ) -> Result<(), AllocError>
         requires gathered { AreGathered self.now.ask.now self.now.limit (hops_in walks.old.items) }
         requires front { AreFor self.now.ask.now (groups_in front.now) }
-        requires some { 0 < length (groups_in front.now) }
+        requires walk { GoesOnTo walk.old group.now (groups_in front.now) }
+        requires few { total_hops (heads_of (groups_in front.now)) ≤ 64 }
         requires room { length (hops_in walks.old.items) < self.now.limit }
+        ensures walk { OnOk result (walk.new ≡ walk.old) }
         ensures gathered { OnOk result
             (AreGathered self.now.ask.now self.now.limit (hops_in walks.new.items)) }
         ensures still { OnOk result
@@ -197,14 +182,15 @@ impl<'g, 'a, 's, 'p, A: Allocator + Clone> Gathering<'g, 'a, 's, 'p, A> {
             (OfChoices (IsListed self.now.ask.now self.now.limit (hops_in walks.new.items))
             (groups_in front.now)) }
     {
-        if front.hop_count() > MAX_HOPS {
+        let len = walk.len();
+        walk.go_on_by(&group.head().piece());
+        if !self.ask.may_send_live(&front.heads().pieces(), walk) {
+            walk.shorten(len);
             return Ok(());
         }
-        let found = Found::of(front.heads());
-        if !self.ask.may_send(walk, &found) {
-            return Ok(());
-        }
-        take_in(self.alloc, walks, walk.as_slice())
+        take_in(self.alloc, walks, walk.as_slice())?;
+        walk.shorten(len);
+        Ok(())
     }
 }
 
@@ -229,7 +215,8 @@ fn take_in(alloc: Global, walks: &mut Vec<Vec<WalkHop>>, walk: &[WalkHop]) -> Re
     Ok(())
 }
 
-/// The place where a walk belongs among those in order, or nothing if it is there.
+/// The place where a walk belongs among those in order, or nothing if it is there. It is looked for
+/// from the end, in steps that double, since walks are met nearly in order.
 fn place_in(walks: &[Vec<WalkHop>], walk: &[WalkHop]) -> Option<usize>
     requires { InOrder walk_cmp (hops_in walks.now) }
     ensures there { IfNone result (Contains (hops_in walks.now) walk.now) }
@@ -238,8 +225,10 @@ fn place_in(walks: &[Vec<WalkHop>], walk: &[WalkHop]) -> Option<usize>
 {
     let mut low = 0;
     let mut high = walks.len();
+    let mut step = 1;
     while low < high {
-        let middle = low + (high - low) / 2;
+        let middle = place_to_look(low, high, step);
+        step = step.saturating_mul(2);
         match compare_walks(&walks[middle], walk) {
             Ordering::Less => low = middle + 1,
             Ordering::Equal => return None,
@@ -247,4 +236,15 @@ fn place_in(walks: &[Vec<WalkHop>], walk: &[WalkHop]) -> Option<usize>
         }
     }
     Some(low)
+}
+
+/// A place from `low` on and before `high`: `step` before it, or halfway.
+fn place_to_look(low: usize, high: usize, step: usize) -> usize
+    requires between { low < high }
+    requires some { 0 < step }
+    ensures from { low ≤ result }
+    ensures before { result < high }
+{
+    let half = (high - low) / 2;
+    high - step.min(half.max(1))
 }

@@ -8,7 +8,7 @@ use crate::history::{address_at, word_of};
 use crate::place::{Place, entry_starts, push_entry, push_entry_from, push_place};
 use crate::refused::{Context, is_down, push_link};
 use crate::said::Said;
-use combinator::{PathList, walks_between};
+use combinator::{Combiner, PathList};
 use event_lines::fields::read_options;
 use event_lines::hops_text;
 use isd_as::IsdAs;
@@ -159,7 +159,7 @@ fn add_no_path(
     }
     let live = net.store().segments_for(alloc, src, dst, net.now())?;
     let any: Policy<Global> = Policy::any();
-    let walks = walks_between(alloc, &live, src, dst, &any, 1)?;
+    let walks = Combiner::of(alloc, &live, src, dst)?.walks(alloc, &any, 1)?;
     if let Some(walk) = walks.get(0) {
         return add_denied(alloc, warnings, line, walk, request);
     }

@@ -1,6 +1,6 @@
 -- What is said of the walks of a pair is true of its question: the links that all its open walks
 -- cross, and the ASes that all pass, are those that each open path needs, if all walks are known.
-use Rattle.std.proofs.Common.{◌≡◌, ℕ, ◌<◌, ◌≤◌, Bool, true, false, List, [], ◌∷◌, get_or, length, All, Contains, Option, None, refl, sym, ap, ◌∙◌, subst, arith, eqb-true}
+use Rattle.std.proofs.Common.{◌≡◌, ℕ, ◌<◌, Bool, true, List, get_or, length, Contains, Option, refl, sym, ap, ◌∙◌, subst, arith, eqb-true}
 use Rattle.std.specs.Prelude.{◌↔◌, ◌==◌, ◌&&◌, filter}
 use Rattle.std.specs.List.{list_all}
 use Rattle.std.proofs.lemmas.Bool.{and_parts}
@@ -11,13 +11,13 @@ use Rattle.policy_expr.specs.Policy.{Rules}
 use Rattle.policy_expr.specs.declared.hop.WalkHop.{WalkHop}
 use Rattle.scion_topology.specs.declared.network.Link.{Link}
 use Rattle.path_verifier.specs.Walk.{walk_of}
-use Rattle.combinator.specs.Candidate.{Question, PathValue, IsCandidate}
+use Rattle.combinator.specs.Candidate.{Question}
 use Rattle.combinator.specs.Walks.{AreWalks, IsWalkOf}
 use Rattle.network_core.specs.Value.{NetValue}
 use Rattle.path_report.specs.declared.best.BestPath.{BestPath}
 use Rattle.path_report.specs.declared.pair.AsPair.{AsPair}
 use Rattle.path_report.specs.Paths.{IsSurvived, crosses, is_open, open_walks, passes}
-use Rattle.path_report.specs.Pair.{EachOpen, IsNeeded, IsPairReport, IsPassed, PairValue, TellsBest, addresses, is_between, question_between}
+use Rattle.path_report.specs.Pair.{EachOpen, IsNeeded, IsPairReport, IsPassed, TellsBest, addresses, is_between, question_between}
 use Rattle.path_report.specs.inner.Needed.{is_crossed, is_through}
 
 module _ (links : List Link) (question : Question) (limit : ℕ) (walks : List (List WalkHop))

@@ -1,8 +1,8 @@
 -- What is known of the places of links is known of the links.
-use Rattle.std.proofs.Common.{◌≡◌, ℕ, zero, suc, ◌<◌, ◌≤◌, Bool, true, false, List, [], ◌∷◌, Some, get_or, length, map, All, Contains, refl, sym, ap, subst, ◌∙◌, arith}
+use Rattle.std.proofs.Common.{◌≡◌, ℕ, suc, Bool, List, [], ◌∷◌, Some, length, map, All, Contains, refl, sym, ap, subst, ◌∙◌, arith}
 use Rattle.std.specs.Prelude.{◌||◌, ◌&&◌, slice_get}
-use Rattle.std.specs.List.{list_all, list_any}
-use Rattle.std.proofs.lemmas.List.Elements.{All-cons, All-head, All-tail, All-nil}
+use Rattle.std.specs.List.{list_any}
+use Rattle.std.proofs.lemmas.List.Elements.{All-cons, All-head, All-tail}
 use Rattle.std.proofs.lemmas.Option.{slice_get-get_or}
 use Rattle.policy_expr.specs.declared.hop.WalkHop.{WalkHop}
 use Rattle.scion_topology.specs.declared.network.Link.{Link}
@@ -10,8 +10,8 @@ use Rattle.scion_topology.specs.Network.{Network}
 use Rattle.scion_topology.specs.Topology.{IsNetwork}
 use Rattle.path_report.specs.declared.open_walk.OpenWalk.{OpenWalk}
 use Rattle.path_report.specs.Paths.{IsSurvived, are_cut, crosses}
-use Rattle.path_report.specs.inner.Cuts.{CanCut, DoSurvive, IsCrossed, are_met, crosses_at, is_met}
-use Rattle.path_report.specs.inner.Places.{HasPlaces, places_crossed}
+use Rattle.path_report.specs.inner.Cuts.{DoSurvive, IsCrossed, are_met, is_met}
+use Rattle.path_report.specs.inner.Places.{HasPlaces}
 use Rattle.path_report.proofs.Placing.{crosses_there, crossed_within}
 
 abbrev hops_of : List OpenWalk → List (List WalkHop)

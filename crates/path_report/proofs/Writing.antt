@@ -1,13 +1,12 @@
 -- Lines of pairs that are written one after another, and what was written when a fault came.
-use Rattle.std.proofs.Common.{◌≡◌, ℕ, ◌+◌, ◌<◌, List, [], ◌∷◌, ◌++◌, Option, get_or, length, map, take, drop, refl, sym, ap, ◌∙◌, subst, inl, inr}
-use Rattle.std.specs.Prelude.{flat_map, All}
+use Rattle.std.proofs.Common.{◌≡◌, ℕ, ◌+◌, ◌<◌, List, [], ◌∷◌, ◌++◌, Option, get_or, length, take, drop, refl, sym, ap, ◌∙◌, subst, inl, inr}
+use Rattle.std.specs.Prelude.{flat_map}
 use Rattle.std.specs.Io.KnownBytes.{Appends}
 use Rattle.std.proofs.KnownBytes.{Appends-nil, Appends-trans}
 use Rattle.std.proofs.Math.Seq.{take-append-add, take-length}
-use Rattle.std.proofs.lemmas.List.{append_assoc, append-nil, flat_map_more, map-append, take-append-drop, take_more}
+use Rattle.std.proofs.lemmas.List.{append-nil, flat_map_more, map-append, take-append-drop, take_more}
 use Rattle.std.proofs.lemmas.List.Elements.{All-append, All-cons, All-nil}
 use Rattle.streams.specs.Streams.{AppendsFront}
-use Rattle.scion_topology.specs.declared.network.Link.{Link}
 use Rattle.network_core.specs.Value.{NetValue}
 use Rattle.path_report.specs.declared.pair.AsPair.{AsPair}
 use Rattle.path_report.specs.Pair.{PairValue, IsPairReport}

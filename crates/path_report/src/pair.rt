@@ -1,18 +1,17 @@
 //! What is said of the paths between two ASes.
 
 ghost use Rattle.std.specs.Prelude.{◌≡◌, ◌<◌, ◌≤◌, [], IfOk};
-ghost use Rattle.path_server.specs.Lookup.{segments_for};
-ghost use Rattle.path_report.specs.Pair.{IsPairReport, TellsBest, question_between};
+ghost use Rattle.combinator.specs.Combiner.{asked_of};
+ghost use Rattle.path_report.specs.Pair.{IsPairReport, TellsBest};
 
 use crate::best::{BestPath, first_open};
 use crate::needed::{needed_ases, needed_links};
 use crate::open_walk::open_walks;
 use crate::report::ReportOptions;
 use crate::survival::losses_survived;
-use combinator::{paths_between, walks_between};
+use combinator::Combiner;
 use isd_as::IsdAs;
 use network_core::Net;
-use path_server::SegmentSet;
 use scion_topology::Link;
 use std::alloc::{AllocError, Global};
 use std::marker::Model;
@@ -72,23 +71,21 @@ fn best_between(
     alloc: Global,
     net: &Net,
     wanted: &ReportOptions<'_>,
-    set: &SegmentSet,
-    pair: AsPair,
+    combiner: &Combiner<'_>,
     some: usize,
 ) -> Result<Option<BestPath>, AllocError>
-    requires set { set.now ≡ segments_for net.now.segments pair.from pair.to net.now.moment }
     requires some { 0 < some }
     requires few { some ≤ wanted.now.limit }
     ensures { IfOk result (TellsBest net.now.network.links
-        (question_between net.now wanted.entry.now.rules pair) wanted.entry.now.limit) }
+        (asked_of combiner.now wanted.entry.now.rules) wanted.entry.now.limit) }
 {
     let limit = usize::from(wanted.limit);
-    let paths = paths_between(alloc, set, pair.from, pair.to, wanted.policy, some)?;
+    let paths = combiner.paths(alloc, wanted.policy, some)?;
     let best = first_open(alloc, net.topology(), &paths)?;
     if best.is_some() || paths.len() < some || some == limit {
         return Ok(best);
     }
-    best_between(alloc, net, wanted, set, pair, limit.min(2 * some))
+    best_between(alloc, net, wanted, combiner, limit.min(2 * some))
 }
 
 /// What is said of a pair with so many open walks, where no links and no ASes are named.
@@ -136,14 +133,15 @@ pub(crate) fn pair_report(
     let set = net
         .store()
         .segments_for(alloc, pair.from, pair.to, net.now())?;
-    let walks = walks_between(alloc, &set, pair.from, pair.to, wanted.policy, limit)?;
+    let combiner = Combiner::of(alloc, &set, pair.from, pair.to)?;
+    let walks = combiner.walks(alloc, wanted.policy, limit)?;
     let open = open_walks(alloc, topology, &walks)?;
     let is_full = walks.len() == limit;
     let paths = open.len();
     if paths == 0 {
         return Ok(without_links(alloc, pair, is_full, paths, None));
     }
-    let best = best_between(alloc, net, wanted, &set, pair, 1)?;
+    let best = best_between(alloc, net, wanted, &combiner, 1)?;
     if is_full {
         return Ok(without_links(alloc, pair, is_full, paths, best));
     }

@@ -206,9 +206,9 @@ fn write_pairs<K: Sink>(
 /// `a` and `b`, each with `ia` and `if`. What is not known, or if there is no path, is `null`. A
 /// link of the last lines has `link` and `pairs`, or `cut`.
 ///
-/// For each pair it takes the time of [`walks_between`](combinator::walks_between), and of each
+/// For each pair it takes the time of [`Combiner::walks`](combinator::Combiner::walks), and of each
 /// walk for a search of the link at each of its hops; that of
-/// [`paths_between`](combinator::paths_between) for one path, or twice that of those before the
+/// [`Combiner::paths`](combinator::Combiner::paths) for one path, or twice that of those before the
 /// first whose links are up; and of the walks for each three links, each of one walk; and each AS
 /// of the network for the hops of a walk. The links at the end take the time of each link and each
 /// pair, for each link that the pair needs. The memory is that of the walks of one pair, and of

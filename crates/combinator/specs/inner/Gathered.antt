@@ -1,5 +1,5 @@
 -- How the walks of paths are gathered (words of private functions' contracts).
-use Rattle.std.specs.Prelude.{◌≡◌, ◌⊎◌, ℕ, ◌≤◌, List, length, map, All, Contains, Vec}
+use Rattle.std.specs.Prelude.{◌≡◌, ◌⊎◌, ℕ, ◌≤◌, List, [], ◌∷◌, ◌++◌, length, map, All, Contains, Vec}
 use Rattle.std.specs.declared.alloc.Global.{Global}
 use Rattle.path_header.specs.Value.{HeaderValue}
 use Rattle.policy_expr.specs.declared.hop.WalkHop.{WalkHop}
@@ -8,6 +8,7 @@ use Rattle.path_verifier.specs.Walk.{walk_of}
 use Rattle.combinator.specs.Candidate.{Question, IsCandidate, path_with}
 use Rattle.combinator.specs.Order.{walk_cmp}
 use Rattle.combinator.specs.Walks.{IsWalkOf}
+use Rattle.combinator.specs.inner.Group.{GroupValue, heads_of}
 use Rattle.combinator.specs.inner.Placed.{InOrder}
 
 -- the hops of each walk
@@ -26,6 +27,12 @@ IsListed question limit walks pieces = (header : HeaderValue)
 -- whatever the old list had, the new one has
 abbrev pub StillList : (limit : ℕ) (old new : List (List WalkHop)) → Type 0
 StillList limit old new = (walk : List WalkHop) → HasWalk limit old walk → HasWalk limit new walk
+
+-- the walk is that of these groups but for the last, which is this one
+pub record GoesOnTo (walk : List WalkHop) (group : GroupValue) (groups : List GroupValue) : Type 0 where
+  pub front : List GroupValue
+  pub same : groups ≡ front ++ group ∷ []
+  pub own : walk ≡ walk_of (heads_of front)
 
 -- walks that were gathered: in order, at most `limit`, and each of a path that may be sent
 pub record AreGathered (question : Question) (limit : ℕ) (walks : List (List WalkHop)) : Type 0 where

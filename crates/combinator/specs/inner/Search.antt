@@ -5,8 +5,11 @@ use Rattle.std.specs.declared.cmp.Ordering.TheVariants.{Less}
 use Rattle.path_header.specs.Value.{HeaderValue}
 use Rattle.path_header.specs.Spelling.{info_spelling, InfoFits, HopFits}
 use Rattle.path_verifier.specs.Piece.{PieceValue, HasRange, begins_in, ends_in}
+use Rattle.path_server.specs.Lookup.{Selection}
+use Rattle.policy_expr.specs.Policy.{Rules}
 use Rattle.path_verifier.specs.Header.{field_of, header_of, info_of}
-use Rattle.combinator.specs.Candidate.{Question, PathValue, path_with, IsCandidate}
+use Rattle.path_verifier.specs.Accepted.{AreLive}
+use Rattle.combinator.specs.Candidate.{Question, PathValue, question_of, path_with, IsCandidate, IsOf}
 use Rattle.combinator.specs.Order.{bytes_cmp, path_cmp, LastAsLong, HaveOneWalk}
 use Rattle.combinator.specs.Answer.{IsBest}
 use Rattle.combinator.specs.inner.Placed.{InOrder, Met}
@@ -77,3 +80,11 @@ unfoldable pub HasFields : PieceValue → Type 0
 HasFields piece = InfoFits (info_of piece)
     × All (λ entry. HopFits (field_of entry)) piece.segment.entries
     × (length piece.segment.entries ≤ 63)
+
+-- the pieces of live segments of a set of which all paths between two ASes are made, whatever the
+-- policy
+pub record AreUsable (set : Selection) (src dst : ℕ) (pieces : List PieceValue) : Type 0 where
+  pub own : All (IsOf set) pieces
+  pub live : All (λ piece. AreLive set.moment (piece ∷ [])) pieces
+  pub whole : (rules : Rules) → HaveAll (question_of set src dst rules) pieces
+  pub fields : All HasFields pieces

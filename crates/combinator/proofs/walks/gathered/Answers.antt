@@ -1,9 +1,14 @@
-use Rattle.std.proofs.Common.{◌≡◌, [], ap, subst}
+use Rattle.std.proofs.Common.{[], ap, subst}
+use Rattle.path_verifier.specs.Walk.{walk_of}
 use Rattle.combinator.specs.Candidate.{Question}
 use Rattle.combinator.specs.inner.Gathered.{IsListed, hops_in}
 use Rattle.combinator.specs.inner.Over.{OfChoices, OfEachOver}
 use Rattle.combinator.proofs.Gathered.{are_walks}
 use Rattle.combinator.proofs.walks.gathered.Goals as goal
+
+pub try_behind-requires-clause-walk : goal.try_behind-requires-clause-walk
+unfolding walk_of
+try_behind-requires-clause-walk g c = c.new-walk.ensures
 
 pub returns : goal.returns
 returns g c =

@@ -10,12 +10,16 @@ use Rattle.combinator.proofs.walks.place_in.Goals as goal
 pub loop-low-preserved-in-Less : goal.loop-low-preserved-in-Less
 loop-low-preserved-in-Less c =
     let upto = c.loop-low.invariant.within in
+    let there = c.place_to_look-middle.ensures in
+    let some = c.loop-low.invariant.some in
+    let more = c.saturating_mul-step.ensures in
     let same = length_seen c.args.walks.now in record {
-      range = omega (arith, c.loop-low-test.true);
+      range = omega (arith, c.loop-low-test.true, there);
+      some = omega (arith, more, some);
       within = upto;
       before = less_upto walk_cmp walk_total (hops_in c.args.walks.now) c.args.walk.now _ c.index-walks-middle.result.items c.requires
-          (omega (arith, c.loop-low-test.true, upto, same))
-          (seen_at (λ walk. walk.items) c.args.walks.now _ c.index-walks-middle.result (omega (arith, c.loop-low-test.true, upto)) c.index-walks-middle.is)
+          (omega (arith, c.loop-low-test.true, upto, same, there))
+          (seen_at (λ walk. walk.items) c.args.walks.now _ c.index-walks-middle.result (omega (arith, c.loop-low-test.true, upto, there)) c.index-walks-middle.is)
           (ap (λ (hops : List WalkHop). walk_cmp hops c.args.walk.now) (sym c.deref.ensures.value) ∙ sym c.compare_walks.ensures ∙ c.in-Less.is);
       behind = c.loop-low.invariant.behind;
     }
@@ -23,21 +27,26 @@ loop-low-preserved-in-Less c =
 pub loop-low-preserved : goal.loop-low-preserved
 loop-low-preserved c =
     let upto = c.loop-low.invariant.within in
+    let there = c.place_to_look-middle.ensures in
+    let some = c.loop-low.invariant.some in
+    let more = c.saturating_mul-step.ensures in
     let same = length_seen c.args.walks.now in record {
-      range = omega (arith, c.loop-low-test.true);
-      within = omega (arith, c.loop-low-test.true, upto);
+      range = omega (arith, c.loop-low-test.true, there);
+      some = omega (arith, more, some);
+      within = omega (arith, c.loop-low-test.true, upto, there);
       before = c.loop-low.invariant.before;
       behind = greater_from walk_cmp walk_total (hops_in c.args.walks.now) c.args.walk.now _ c.index-walks-middle.result.items c.requires
-          (omega (arith, c.loop-low-test.true, upto, same))
-          (seen_at (λ walk. walk.items) c.args.walks.now _ c.index-walks-middle.result (omega (arith, c.loop-low-test.true, upto)) c.index-walks-middle.is)
+          (omega (arith, c.loop-low-test.true, upto, same, there))
+          (seen_at (λ walk. walk.items) c.args.walks.now _ c.index-walks-middle.result (omega (arith, c.loop-low-test.true, upto, there)) c.index-walks-middle.is)
           (ap (λ (hops : List WalkHop). walk_cmp hops c.args.walk.now) (sym c.deref.ensures.value) ∙ sym c.compare_walks.ensures ∙ c.in-Greater.is);
     }
 
 pub returns-in-Equal-clause-there : goal.returns-in-Equal-clause-there
 returns-in-Equal-clause-there c =
     let upto = c.loop-low.invariant.within in
+    let there = c.place_to_look-middle.ensures in
     let same = length_seen c.args.walks.now in
     there_at (hops_in c.args.walks.now) _ c.index-walks-middle.result.items c.args.walk.now
-    (omega (arith, c.loop-low-test.true, upto, same))
-    (seen_at (λ walk. walk.items) c.args.walks.now _ c.index-walks-middle.result (omega (arith, c.loop-low-test.true, upto)) c.index-walks-middle.is)
+    (omega (arith, c.loop-low-test.true, upto, same, there))
+    (seen_at (λ walk. walk.items) c.args.walks.now _ c.index-walks-middle.result (omega (arith, c.loop-low-test.true, upto, there)) c.index-walks-middle.is)
     (ap (λ (hops : List WalkHop). walk_cmp hops c.args.walk.now) (sym c.deref.ensures.value) ∙ sym c.compare_walks.ensures ∙ c.in-Equal.is)

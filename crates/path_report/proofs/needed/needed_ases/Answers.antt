@@ -1,5 +1,5 @@
 -- One AS more, which all walks pass or some don't.
-use Rattle.std.proofs.Common.{◌≡◌, ◌+◌, ◌++◌, ℕ, Bool, List, map, take, sym, ap, ◌∙◌}
+use Rattle.std.proofs.Common.{◌+◌, ◌++◌, ℕ, Bool, List, map, take, sym, ap, ◌∙◌}
 use Rattle.std.specs.Prelude.{filter}
 use Rattle.scion_topology.specs.declared.network.AsEntry.{AsEntry}
 use Rattle.path_report.specs.declared.open_walk.OpenWalk.{OpenWalk}

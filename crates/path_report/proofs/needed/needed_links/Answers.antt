@@ -1,6 +1,6 @@
 -- One link more, which all walks cross or some don't.
-use Rattle.std.proofs.Common.{◌≡◌, ◌++◌, ◌∷◌, [], List, Bool, cond, rules, sym, ap, ◌∙◌, take, Some}
-use Rattle.std.specs.Prelude.{filter, map, slice_get}
+use Rattle.std.proofs.Common.{◌≡◌, List, rules, sym, ap, ◌∙◌, Some}
+use Rattle.std.specs.Prelude.{map, slice_get}
 use Rattle.std.proofs.lemmas.Option.{slice_get-get_or}
 use Rattle.scion_topology.specs.declared.network.Link.{Link}
 use Rattle.path_report.specs.declared.open_walk.OpenWalk.{OpenWalk}

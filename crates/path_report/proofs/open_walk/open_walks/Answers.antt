@@ -1,5 +1,5 @@
 -- One walk more, which is open or not.
-use Rattle.std.proofs.Common.{◌≡◌, ◌++◌, ◌∷◌, [], List, Bool, true, false, cond, All, map, option_map, take, rules, sym, ap, subst, ◌∙◌}
+use Rattle.std.proofs.Common.{◌≡◌, ◌++◌, ◌∷◌, [], List, Bool, cond, All, map, option_map, take, rules, sym, ap, subst, ◌∙◌}
 use Rattle.std.proofs.lemmas.List.{map-append}
 use Rattle.std.proofs.lemmas.List.Elements.{All-push}
 use Rattle.policy_expr.specs.declared.hop.WalkHop.{WalkHop}
@@ -20,7 +20,7 @@ loop-place-preserved c =
     let next = walks_next links c.args.walks.now c.loop-place.place hops there in
     let opens : c.are_up_at.result ≡ is_open links hops =
     c.are_up_at.ensures ∙ ap (λ (ls : List Link). are_up_at ls c.deref.result.now) c.links.ensures
-    ∙ ap (are_up_at links) (c.deref.ensures.value ∙ c.in_ok-places.ensures)
+    ∙ ap (are_up_at links) (c.deref.ensures.value ∙ c.in_ok-places.ensures.places)
     ∙ are_up_where_open links hops in
     elim c.if-are_up_at.branch [
       | then-are_up_at+in_ok-push w ↦ (
@@ -34,11 +34,13 @@ loop-place-preserved c =
                 ∙ ap (λ (b : Bool). open_walks links (take c.loop-place.place c.args.walks.now) ++ cond b (hops ∷ []) [])
                 (sym w.if-are_up_at.true ∙ opens)
                 ∙ sym next;
+            known = c.in_ok-places.ensures.known;
             places = subst (All (HasPlaces links)) (sym items)
-                (All-push (HasPlaces links) c.loop-place.found.items one c.loop-place.invariant.places c.in_ok-places.ensures);
+                (All-push (HasPlaces links) c.loop-place.found.items one c.loop-place.invariant.places c.in_ok-places.ensures.places);
           })
       | else-are_up_at w ↦ record {
         walks = search (rules, next, opens);
+        known = c.in_ok-places.ensures.known;
         places = search (rules);
       }
     ]

@@ -1,5 +1,5 @@
 -- What is said of the walks is said of the pair.
-use Rattle.std.proofs.Common.{rules, ◌≡◌, ◌<◌, Bool, ℕ, List, All, length, map, sym, ap, ◌∙◌, subst, arith}
+use Rattle.std.proofs.Common.{◌≡◌, ◌<◌, Bool, ℕ, List, All, length, map, sym, ap, ◌∙◌, subst, arith}
 use Rattle.std.specs.Prelude.{◌==◌, filter}
 use Rattle.std.proofs.lemmas.List.{length-map}
 use Rattle.path_server.specs.Lookup.{Selection, segments_for}
@@ -7,11 +7,12 @@ use Rattle.policy_expr.specs.Policy.{Rules}
 use Rattle.policy_expr.specs.declared.hop.WalkHop.{WalkHop}
 use Rattle.scion_topology.specs.declared.network.Link.{Link}
 use Rattle.scion_topology.specs.Topology.{IsNetwork}
-use Rattle.combinator.specs.Candidate.{question_of}
+use Rattle.combinator.specs.Candidate.{Question, question_of}
+use Rattle.combinator.specs.Combiner.{CombinerValue, asked_of}
 use Rattle.combinator.specs.Walks.{AreWalks}
 use Rattle.path_report.specs.declared.open_walk.OpenWalk.{OpenWalk}
 use Rattle.path_report.specs.Paths.{IsSurvived, open_walks}
-use Rattle.path_report.specs.Pair.{IsPairReport, PairValue, addresses, question_between}
+use Rattle.path_report.specs.Pair.{IsPairReport, TellsBest, addresses, question_between}
 use Rattle.path_report.specs.inner.Cuts.{DoSurvive}
 use Rattle.path_report.specs.inner.Needed.{is_crossed, is_through}
 use Rattle.path_report.specs.inner.Places.{HasPlaces}
@@ -30,10 +31,15 @@ returns-clause-report c =
     let set : c.in_ok-set.set ≡ segments_for net.segments pair.from pair.to net.moment = c.in_ok-set.ensures
     ∙ ap (λ stored. segments_for stored pair.from pair.to c.now.result) c.store.ensures
     ∙ ap (λ m. segments_for net.segments pair.from pair.to m) c.now.ensures in
-    let question : question_of c.in_ok-set.set pair.from pair.to c.wanted.inside.policy.now ≡ question_between net rules pair =
-    ap (λ (s : Selection). question_of s pair.from pair.to c.wanted.inside.policy.now) set
+    let question : asked_of c.in_ok-combiner.combiner c.wanted.inside.policy.now ≡ question_between net rules pair =
+    ap (λ (of : CombinerValue). asked_of of c.wanted.inside.policy.now) c.in_ok-combiner.ensures
+    ∙ ap (λ (s : Selection). question_of s pair.from pair.to c.wanted.inside.policy.now) set
     ∙ ap (λ (r : Rules). question_of (segments_for net.segments pair.from pair.to net.moment) pair.from pair.to r)
     (ap (λ w. w.rules) c.wanted.view_is) in
+    let best : TellsBest links (question_between net rules pair) limit c.in_ok-best.best =
+    subst (λ (q : Question). TellsBest links q limit c.in_ok-best.best)
+    (ap (λ (of : CombinerValue). asked_of of rules) c.in_ok-combiner.ensures
+    ∙ ap (λ (s : Selection). question_of s pair.from pair.to rules) set) c.in_ok-best.ensures in
     let same_limit : c.from-limit.result ≡ limit = c.from-limit.ensures ∙ ap (λ w. w.limit) c.wanted.view_is in
     let gathered : AreWalks (question_between net rules pair) limit walks =
     subst (λ n. AreWalks (question_between net rules pair) n walks) same_limit
@@ -75,6 +81,6 @@ returns-clause-report c =
       through = c.in_ok-needed_ases.field-0.items;
     })) full
     (reported_all net rules limit pair walks gathered c.len-paths.result c.in_ok-losses_survived.field-0 c.in_ok-best.best
-    c.in_ok-needed_links.field-0.items c.in_ok-needed_ases.field-0.items (λ same. c.if-is_full.false (c.len.ensures ∙ same ∙ sym same_limit)) count some c.in_ok-best.ensures
+    c.in_ok-needed_links.field-0.items c.in_ok-needed_ases.field-0.items (λ same. c.if-is_full.false (c.len.ensures ∙ same ∙ sym same_limit)) count some best
     (subst (λ (ws : List (List WalkHop)). IsSurvived links ws c.in_ok-losses_survived.field-0) hops
     (survived net.network (subst IsNetwork c.topology-topology.ensures c.known.ensures) found places c.in_ok-losses_survived.field-0 losses)) needed through)

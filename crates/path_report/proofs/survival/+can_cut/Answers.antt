@@ -1,5 +1,5 @@
 -- One of the first walk's links leads to a cut, or none does.
-use Rattle.std.proofs.Common.{◌≡◌, ◌-◌, ◌++◌, ◌∷◌, [], ℕ, List, Contains, get_or, sym, subst, ◌∙◌, arith}
+use Rattle.std.proofs.Common.{◌-◌, ◌++◌, ◌∷◌, [], ℕ, List, Contains, get_or, sym, subst, ◌∙◌, arith}
 use Rattle.std.proofs.lemmas.List.Elements.{Contains-get_or}
 use Rattle.combinator.proofs.Collected.{at_end}
 use Rattle.path_report.specs.inner.Cuts.{CanCut, CannotCut}

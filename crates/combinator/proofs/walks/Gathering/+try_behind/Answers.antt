@@ -1,14 +1,17 @@
-use Rattle.std.proofs.Common.{rules, ◌≡◌, ◌-◌, [], ◌∷◌, List, length, true, false, sym, ap, subst, eq-eqb, eqb-true, ◌∙◌, arith, length-append}
+use Rattle.std.proofs.Common.{rules, ◌≡◌, ◌-◌, ◌<◌, [], ◌∷◌, List, length, true, false, sym, ap, subst, eq-eqb, eqb-true, ◌∙◌, arith, length-append}
+use Rattle.policy_expr.specs.declared.hop.WalkHop.{WalkHop}
+use Rattle.path_verifier.specs.Header.{total_hops}
 use Rattle.path_verifier.specs.Piece.{ends_in, kind_of}
 use Rattle.path_verifier.specs.Accepted.{MayAdjoin}
 use Rattle.combinator.specs.Candidate.{Question}
 use Rattle.combinator.specs.inner.Front.{groups_in}
 use Rattle.combinator.specs.inner.Gathered.{IsListed, hops_in}
-use Rattle.combinator.specs.inner.Group.{GroupValue}
+use Rattle.combinator.specs.inner.Group.{GroupValue, heads_of}
 use Rattle.combinator.specs.inner.Over.{OfChoices}
 use Rattle.combinator.proofs.Gathered.{all_full, listed_on, listed_where_none}
+use Rattle.combinator.proofs.Growing.{grown, restored, roomy}
 use Rattle.combinator.proofs.Listing.{length_seen}
-use Rattle.combinator.proofs.Stepping.{barred_tried, end_tried, further_tried, last_tried, there}
+use Rattle.combinator.proofs.Stepping.{barred_tried, end_tried, further_tried, last_tried, there, too_many_tried}
 use Rattle.combinator.proofs.Trying.{all_tried, for_more}
 use Rattle.combinator.proofs.walks.Gathering.+try_behind.Goals as goal
 
@@ -25,6 +28,7 @@ loop-group-preserved-then-not-may_go_on g t c =
     let question = a.self.now.ask.now in
     let fact = IsListed question a.self.now.limit (hops_in c.loop-group.walks.items) in
     let bars = c.may_go_on.ensures c.if-not-may_go_on.true in record {
+      walk = c.loop-group.invariant.walk;
       gathered = c.loop-group.invariant.gathered;
       still = c.loop-group.invariant.still;
       listed = barred_tried question a.self.now.groups.now c.requires.search (groups_in a.front.now) c.requires.front (a.depth - 1) a.at
@@ -33,6 +37,37 @@ loop-group-preserved-then-not-may_go_on g t c =
           (listed_where_none question a.self.now.limit (hops_in c.loop-group.walks.items)) (λ list fine. fine) c.loop-group.invariant.listed
           bars.0 bars.1 bars.2 (λ may. bars.3 (subst (MayAdjoin (kind_of bars.1.head)) (sym c.kind.ensures) may));
     }
+
+pub loop-group-preserved-then-hop_count-gt-MAX_HOPS : goal.loop-group-preserved-then-hop_count-gt-MAX_HOPS
+loop-group-preserved-then-hop_count-gt-MAX_HOPS g t c =
+    let a = c.args in
+    let question = a.self.now.ask.now in
+    let fact = IsListed question a.self.now.limit (hops_in c.loop-group.walks.items) in
+    let count = c.hop_count.ensures.value in
+    let long = c.if-hop_count-gt-MAX_HOPS.true in record {
+      walk = c.loop-group.invariant.walk;
+      gathered = c.loop-group.invariant.gathered;
+      still = c.loop-group.invariant.still;
+      listed = too_many_tried question a.self.now.groups.now c.requires.search (groups_in a.front.now) c.requires.front (a.depth - 1) a.at
+          c.groups_from-next_groups.result.now c.groups_from-next_groups.ensures c.loop-group.group-index c.group-item.result
+          c.loop-group-test.true c.group-item.is fact fact
+          (listed_where_none question a.self.now.limit (hops_in c.loop-group.walks.items)) (λ list fine. fine) c.loop-group.invariant.listed
+          (subst (λ (gs : List GroupValue). 64 < total_hops (heads_of gs)) c.with-longer.ensures (omega (arith, count, long)));
+    }
+
+pub add_walk-requires-clause-walk : goal.add_walk-requires-clause-walk
+add_walk-requires-clause-walk g t c = record {
+  front = groups_in c.args.front.now;
+  same = c.with-longer.ensures;
+  own = c.loop-group.invariant.walk ∙ c.requires.walk;
+}
+
+pub go_on_by-requires-clause-few : goal.go_on_by-requires-clause-few
+go_on_by-requires-clause-few g t c =
+    let count = c.hop_count.ensures.value in
+    let few = c.if-hop_count-gt-MAX_HOPS.false in
+    roomy (groups_in c.args.front.now) c.group-item.result (groups_in c.with-longer.result) c.with-longer.ensures c.loop-group.walk
+    (c.loop-group.invariant.walk ∙ c.requires.walk) (omega (arith, count, few)) c.piece.result (c.piece.ensures.value ∙ c.head.ensures)
 
 pub add_walk-requires-clause-front : goal.add_walk-requires-clause-front
 add_walk-requires-clause-front g t c =
@@ -52,6 +87,7 @@ loop-group-preserved-then-eq g t c =
     let old = hops_in c.loop-group.walks.items in
     let new = hops_in c.add_walk.new.walks.items in
     let dst : c.ask.inside.dst ≡ question.dst = ap (λ (q : Question). q.dst) c.ask.view_is in record {
+      walk = c.in_ok-add_walk.ensures.walk ∙ c.loop-group.invariant.walk;
       gathered = c.in_ok-add_walk.ensures.gathered;
       still = λ walk has. c.in_ok-add_walk.ensures.still walk (c.loop-group.invariant.still walk has);
       listed = end_tried question a.self.now.groups.now c.requires.search (groups_in a.front.now) c.requires.front (a.depth - 1) a.at
@@ -71,6 +107,7 @@ loop-group-preserved-then-depth-eq1 g t c =
     let apart : ¬ (ends_in c.group-item.result.head ≡ question.dst) = λ same. (
     let clash : false ≡ true = sym c.if-eq.false ∙ c.eq.ensures ∙ eq-eqb c.ends-end.result c.ask.inside.dst (c.ends-end.ensures ∙ same ∙ sym dst) in
     cc) in record {
+      walk = c.loop-group.invariant.walk;
       gathered = c.loop-group.invariant.gathered;
       still = c.loop-group.invariant.still;
       listed = last_tried question a.self.now.groups.now c.requires.search (groups_in a.front.now) c.requires.front (a.depth - 1) a.at
@@ -94,9 +131,12 @@ try_behind-requires g t c κs within =
     let some = c.requires.some in
     let few = c.requires.few in
     let apart = c.if-depth-eq1.false in
-    let nearer = c.decreases in (
+    let nearer = c.decreases in
+    let walk = c.go_on_by.ensures.walk
+    ∙ grown (groups_in a.front.now) c.group-item.result (groups_in c.with-longer.result) c.with-longer.ensures c.loop-group.walk
+    (c.loop-group.invariant.walk ∙ c.requires.walk) c.piece.result (c.piece.ensures.value ∙ c.head.ensures) in (
       omega (arith, nearer, some),
-      (within, (c.requires.search, (c.loop-group.invariant.gathered, (more, (omega (arith, some, apart), omega (arith, long, both, few, some)))))),
+      (within, (c.requires.search, (c.loop-group.invariant.gathered, (more, (walk, (omega (arith, some, apart), omega (arith, long, both, few, some))))))),
     )
 
 pub loop-group-preserved : goal.loop-group-preserved
@@ -109,7 +149,17 @@ loop-group-preserved g t c =
     let dst : c.ask.inside.dst ≡ question.dst = ap (λ (q : Question). q.dst) c.ask.view_is in
     let apart : ¬ (ends_in c.group-item.result.head ≡ question.dst) = λ same. (
     let clash : false ≡ true = sym c.if-eq.false ∙ c.eq.ensures ∙ eq-eqb c.ends-end.result c.ask.inside.dst (c.ends-end.ensures ∙ same ∙ sym dst) in
-    cc) in record {
+    cc) in
+    let own = c.loop-group.invariant.walk ∙ c.requires.walk in
+    let piece = c.piece.ensures.value ∙ c.head.ensures in record {
+      walk = c.shorten.ensures
+          ∙ restored (groups_in a.front.now) c.group-item.result (groups_in c.with-longer.result) c.with-longer.ensures c.loop-group.walk own
+          c.try_behind.new.walk c.len-len.result
+          (c.in_ok-try_behind.ensures.walk ∙ c.go_on_by.ensures.walk
+          ∙ grown (groups_in a.front.now) c.group-item.result (groups_in c.with-longer.result) c.with-longer.ensures c.loop-group.walk own
+          c.piece.result piece)
+          (c.len-len.ensures ∙ ap (λ (w : List WalkHop). length w) (sym c.loop-group.invariant.walk))
+          ∙ c.loop-group.invariant.walk;
       gathered = c.in_ok-try_behind.ensures.gathered;
       still = λ walk has. c.in_ok-try_behind.ensures.still walk (c.loop-group.invariant.still walk has);
       listed = further_tried question a.self.now.groups.now c.requires.search (groups_in a.front.now) c.requires.front (a.depth - 1) a.at

@@ -1,5 +1,5 @@
 -- The groups before this one were tried, and all that goes on from them.
-use Rattle.std.proofs.Common.{◌-◌, take, Contains}
+use Rattle.std.proofs.Common.{◌≡◌, ◌-◌, take, Contains}
 use Rattle.combinator.specs.inner.Front.{groups_in}
 use Rattle.combinator.specs.inner.Gathered.{AreGathered, IsListed, StillList, hops_in}
 use Rattle.combinator.specs.inner.Group.{GroupValue}
@@ -12,6 +12,7 @@ decreases-try_behind g l = l.depth
 
 abbrev pub invariant-loop-group : goal.invariant-loop-group
 invariant-loop-group g l = record {
+  walk : l.walk ≡ l.fn.walk;
   gathered : AreGathered l.self.ask.now l.self.limit (hops_in l.walks.items);
   still : StillList l.self.limit (hops_in l.fn.walks.items) (hops_in l.walks.items);
   listed : (group : GroupValue) → Contains (take l.group-index l.next_groups) group
