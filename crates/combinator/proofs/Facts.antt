@@ -7,7 +7,7 @@ use Rattle.path_verifier.specs.declared.kind.PieceKind.{PieceKind}
 use Rattle.path_verifier.specs.Piece.{PieceValue, kind_of, ends_in}
 use Rattle.path_verifier.specs.Walk.{walk_of}
 use Rattle.path_verifier.specs.Header.{total_hops}
-use Rattle.path_verifier.specs.Accepted.{DoAdjoin, MayAdjoin, MakesPath}
+use Rattle.path_verifier.specs.Accepted.{DoAdjoin, MayAdjoin, MakesPath, NamesOnce}
 use Rattle.path_verifier.proofs.Breaches.{path_kept}
 use Rattle.combinator.specs.Candidate.{Question, PathValue, IsCandidate, path_with}
 use Rattle.combinator.specs.inner.Search.{IsMetBy, IsNoBetter}
@@ -17,7 +17,7 @@ use Rattle.combinator.specs.inner.Over.{OfEachOver, OfChoices}
 use Rattle.combinator.proofs.Joined.{walk_alike}
 use Rattle.combinator.proofs.Alike.{kinds_alike, ends_alike, total_alike}
 use Rattle.combinator.proofs.Choices.{heads_alike, of_group}
-use Rattle.combinator.proofs.Prefix.{both_groups, over_all}
+use Rattle.combinator.proofs.Prefix.{both_groups, once_prefix, over_all}
 use Rattle.combinator.proofs.Longer.{walk_longer, nothing_behind}
 
 -- no choice from these groups is a candidate
@@ -62,6 +62,20 @@ too_long question groups are long = λ pieces of header is.
     let few = (path_kept is.accepted).few in
     let same = total_alike (heads_of groups) pieces (heads_alike groups pieces are of) in
     omega (arith, long, few, same)
+
+-- groups whose walk passes an AS twice are in no candidate
+pub all_twice : (question : Question) (groups : List GroupValue) → AllByRecursion IsGroup groups
+    → ¬ (NamesOnce (walk_of (heads_of groups))) → HaveNoCandidate question groups
+all_twice question groups are never = λ pieces of header is.
+    never (subst NamesOnce (sym (walk_alike (heads_of groups) pieces (heads_alike groups pieces are of))) (path_kept is.accepted).once)
+
+-- nor are those that begin with such groups
+pub named_twice : (question : Question) (front later : List GroupValue) → AllByRecursion IsGroup (front ++ later)
+    → ¬ (NamesOnce (walk_of (heads_of front))) → HaveNoCandidate question (front ++ later)
+named_twice question front later are never =
+    all_twice question (front ++ later) are
+    (λ once. never (once_prefix (heads_of front) (heads_of later)
+    (subst NamesOnce (ap walk_of (map-append (λ (group : GroupValue). group.head) front later)) once)))
 
 -- ---- the destination
 

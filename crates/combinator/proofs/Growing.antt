@@ -1,10 +1,12 @@
 -- The walk of groups goes on by one group more, and back.
-use Rattle.std.proofs.Common.{◌≡◌, ℕ, ◌+◌, ◌≤◌, List, [], ◌∷◌, ◌++◌, length, map, take, sym, ap, ◌∙◌, arith}
+use Rattle.std.proofs.Common.{◌≡◌, ℕ, ◌+◌, ◌≤◌, Bool, true, false, List, [], ◌∷◌, ◌++◌, length, map, take, sym, ap, subst, ◌∙◌, arith}
+use Rattle.std.specs.Prelude.{◌↔◌, IsTrue}
 use Rattle.std.specs.List.{fold}
 use Rattle.std.proofs.lemmas.List.{map-append}
 use Rattle.std.proofs.lemmas.List.Sums.{sum_by-cons}
 use Rattle.policy_expr.specs.declared.hop.WalkHop.{WalkHop}
 use Rattle.path_verifier.specs.Piece.{PieceValue}
+use Rattle.path_verifier.specs.Accepted.{NamesOnce}
 use Rattle.path_verifier.specs.Header.{len_of, total_hops}
 use Rattle.path_verifier.specs.Walk.{entered_by, hops_of, left_by, walk_of, walk_with}
 use Rattle.path_verifier.proofs.Lengths.{walk_is_short}
@@ -28,6 +30,10 @@ grown_by front piece =
     ∙ ap closed (sym (fold_append [] (map hops_of front) (hops_of piece ∷ [])))
     ∙ ap (λ (hs : List (List WalkHop)). closed (fold walk_with [] hs)) (sym (map-append hops_of front (piece ∷ [])))
 
+-- a walk of no hops passes no AS twice
+pub none_named : NamesOnce []
+none_named j k one other at_j at_k same = absurd cc
+
 module _ (front : List GroupValue) (group : GroupValue) (longer : List GroupValue) (is : longer ≡ front ++ group ∷ [])
     (walk : List WalkHop) (own : walk ≡ walk_of (heads_of front)) where
   heads : heads_of longer ≡ heads_of front ++ group.head ∷ []
@@ -40,6 +46,14 @@ module _ (front : List GroupValue) (group : GroupValue) (longer : List GroupValu
       ∙ ap (λ (p : PieceValue). closed (walk_with (walk_of (heads_of front)) (hops_of p))) same
       ∙ grown_by (heads_of front) group.head
       ∙ sym (ap walk_of heads)
+
+  -- where it is answered that an AS is passed twice, one is
+  pub not_once : (more : List WalkHop) → more ≡ walk_of (heads_of longer) → (answer : Bool) → answer ≡ false
+      → (IsTrue answer ↔ NamesOnce more) → ¬ (NamesOnce (walk_of (heads_of longer)))
+  not_once more are answer is_false tells once =
+      let yes = tells.1 (subst NamesOnce (sym are) once) in
+      let clash : true ≡ false = sym yes ∙ is_false in
+      cc
 
   -- shortened, it is what it was
   pub restored : (more : List WalkHop) (len : ℕ) → more ≡ walk_of (heads_of longer) → len ≡ length walk

@@ -107,7 +107,7 @@ module _ (question : Question) (groups : List GroupValue) (are : AllByRecursion 
       → IsCandidate question (path_with pieces header) → IsCandidate question (path_of best)
   candidate_too = each_candidate question groups are live own best best_is_of
 
-  one_walk : (pieces : List PieceValue) → AreOf groups pieces → walk_of pieces ≡ walk_of best
+  pub one_walk : (pieces : List PieceValue) → AreOf groups pieces → walk_of pieces ≡ walk_of best
   one_walk pieces of = walk_alike pieces best (choices_alike groups pieces best are of best_is_of)
 
   -- where a choice is the best for its walk, the best choice is
@@ -169,6 +169,9 @@ module _ (question : Question) (groups : List GroupValue) (are : AllByRecursion 
   -- the best choice has as many hop fields as the heads
   pub best_count : total_hops (heads_of groups) ≡ total_hops best
   best_count = total_alike (heads_of groups) best (heads_alike groups best are best_is_of)
+
+  pub best_live : AreLive question.set.moment best
+  best_live = live_there question.set.moment groups best live best_is_of
 
   pub best_own : All (IsOf question.set) best
   best_own = own_there question groups best own best_is_of

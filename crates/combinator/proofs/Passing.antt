@@ -3,8 +3,9 @@ use Rattle.std.proofs.Common.{◌≡◌, ℕ, ◌<◌, ◌≤◌, List, [], ◌�
 use Rattle.std.specs.List.{AllByRecursion}
 use Rattle.std.proofs.lemmas.List.Sums.{sum_by-cons}
 use Rattle.path_verifier.specs.Piece.{PieceValue, ends_in, kind_of}
-use Rattle.path_verifier.specs.Accepted.{DoEndIn, MayAdjoin}
+use Rattle.path_verifier.specs.Accepted.{DoEndIn, MayAdjoin, NamesOnce}
 use Rattle.path_verifier.specs.Header.{len_of, total_hops}
+use Rattle.path_verifier.specs.Walk.{walk_of}
 use Rattle.path_verifier.proofs.Breaches.{path_kept}
 use Rattle.combinator.specs.Candidate.{Question, PathValue}
 use Rattle.combinator.specs.inner.Alike.{AreAlike, IsUsable}
@@ -14,7 +15,7 @@ use Rattle.combinator.specs.inner.Search.{AreBefore, IsMetBy, StillMeet}
 use Rattle.combinator.proofs.Alike.{ends_alike}
 use Rattle.combinator.proofs.Before.{met_later}
 use Rattle.combinator.proofs.Choices.{of_group}
-use Rattle.combinator.proofs.Facts.{HaveNoCandidate, kinds_apart, none_behind_end, split_of, too_long}
+use Rattle.combinator.proofs.Facts.{HaveNoCandidate, kinds_apart, named_twice, none_behind_end, split_of, too_long}
 use Rattle.combinator.proofs.Prefix.{both_groups, over_all}
 use Rattle.combinator.proofs.Tried.{ends_with, met_on, one_end}
 use Rattle.combinator.proofs.Trying.{WasTriedOver}
@@ -43,7 +44,7 @@ abbrev pub HoldsWithout : Question → (List PieceValue → Type 0) → Type 0
 HoldsWithout question fact = (groups : List GroupValue) → HaveNoCandidate question groups → OfChoices fact groups
 
 -- with more groups there are more hop fields
-more_hops : (front later : List GroupValue) (group : GroupValue)
+pub more_hops : (front later : List GroupValue) (group : GroupValue)
     → total_hops (heads_of (front ++ group ∷ [])) ≤ total_hops (heads_of (front ++ group ∷ later))
 more_hops [] later group =
     let one = sum_by-cons len_of group.head [] in
@@ -80,6 +81,17 @@ module _ (question : Question) (fact : List PieceValue → Type 0) (without : Ho
       (λ later also. without (front ++ group ∷ later)
       (too_long question (front ++ group ∷ later) (both_groups front (group ∷ later) front_are (is, also))
       (let more = more_hops front later group in omega (arith, many, more))))
+
+  -- groups whose walk passes an AS twice
+  pub twice : ¬ (NamesOnce (walk_of (heads_of (front ++ group ∷ [])))) → (depth at : ℕ)
+      → WasTriedOver (OfChoices fact) groups depth front at group
+  twice never =
+      each_tried (OfChoices fact) groups are front group
+      (λ later also.
+      let same : (front ++ group ∷ []) ++ later ≡ front ++ group ∷ later = append_assoc front (group ∷ []) later in
+      subst (OfChoices fact) same (without ((front ++ group ∷ []) ++ later)
+      (named_twice question (front ++ group ∷ []) later
+      (subst (AllByRecursion IsGroup) (sym same) (both_groups front (group ∷ later) front_are (is, also))) never)))
 
   -- lists that go on from the destination
   pub behind_end : ends_in group.head ≡ question.dst → (depth at : ℕ)

@@ -5,6 +5,8 @@ use Rattle.std.proofs.lemmas.List.{map-append}
 use Rattle.policy_expr.specs.declared.hop.WalkHop.{WalkHop}
 use Rattle.path_verifier.specs.Piece.{PieceValue, ends_in}
 use Rattle.path_verifier.specs.Walk.{hops_of, left_by, entered_by, walk_with, walk_of}
+use Rattle.path_verifier.specs.Accepted.{NamesOnce}
+use Rattle.path_verifier.proofs.Going.{once_shortened}
 use Rattle.path_verifier.proofs.Hops.{length_left_by}
 use Rattle.combinator.specs.Candidate.{Question, PathValue}
 use Rattle.combinator.specs.inner.Search.{IsNoBetter}
@@ -84,6 +86,11 @@ walk_prefix front later =
     ap (λ hs. left_by 0 (take (length (closed walk)) (closed (fold walk_with [] hs)))) (map-append hops_of front later)
     ∙ ap (λ hs. left_by 0 (take (length (closed walk)) (closed hs))) (fold_append [] (map hops_of front) (map hops_of later))
     ∙ closed_prefix walk (map hops_of later)
+
+-- where the walk of all passes no AS twice, that of the first ones does not
+pub once_prefix : (front later : List PieceValue) → NamesOnce (walk_of (front ++ later)) → NamesOnce (walk_of front)
+once_prefix front later once =
+    subst NamesOnce (walk_prefix front later) (once_shortened 0 (length (walk_of front)) (walk_of (front ++ later)) once)
 
 -- where the walk of the first pieces is not the first part of a walk, that is the walk of no list
 -- that begins with them

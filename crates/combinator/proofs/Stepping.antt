@@ -1,13 +1,14 @@
 -- One more group of those that begin here is tried.
 use Rattle.std.proofs.Common.{◌≡◌, ℕ, ◌+◌, ◌<◌, List, [], ◌∷◌, ◌++◌, length, get_or, take, filter, Contains, sym, subst}
 use Rattle.path_verifier.specs.Piece.{PieceValue, ends_in, kind_of}
-use Rattle.path_verifier.specs.Accepted.{MayAdjoin}
+use Rattle.path_verifier.specs.Accepted.{MayAdjoin, NamesOnce}
 use Rattle.combinator.specs.Candidate.{Question}
 use Rattle.path_verifier.specs.Header.{total_hops}
+use Rattle.path_verifier.specs.Walk.{walk_of}
 use Rattle.combinator.specs.inner.Group.{GroupValue, IsGroup, begins_with, heads_of}
 use Rattle.combinator.specs.inner.Over.{AreFor, MaySearch, OfChoices, OfEachOver}
 use Rattle.combinator.proofs.Over.{group_there}
-use Rattle.combinator.proofs.Passing.{HoldsWithout, barred, behind_end, elsewhere, too_many}
+use Rattle.combinator.proofs.Passing.{HoldsWithout, barred, behind_end, elsewhere, too_many, twice}
 use Rattle.combinator.proofs.Trying.{WasTriedOver, none_tried, of_part, tried_here, tried_more}
 
 module _ (question : Question) (groups : List GroupValue) (search : MaySearch question groups)
@@ -41,6 +42,11 @@ module _ (question : Question) (groups : List GroupValue) (search : MaySearch qu
     pub too_many_tried : 64 < total_hops (heads_of (front ++ group ∷ [])) → WereTried
     too_many_tried many =
         one_tried (too_many question after without groups search.are.each front group front_for.are here_is many left at)
+
+    -- with it an AS is passed twice
+    pub twice_tried : ¬ (NamesOnce (walk_of (heads_of (front ++ group ∷ [])))) → WereTried
+    twice_tried never =
+        one_tried (twice question after without groups search.are.each front group front_for.are here_is never left at)
 
     -- it ends in the destination
     pub end_tried : ends_in group.head ≡ question.dst → (longer : List GroupValue) → longer ≡ front ++ group ∷ []

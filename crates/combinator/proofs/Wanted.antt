@@ -12,7 +12,8 @@ use Rattle.policy_expr.specs.Policy.{Rules, AllowsHops, HasWord}
 use Rattle.policy_expr.specs.declared.hop.WalkHop.{WalkHop}
 use Rattle.path_verifier.specs.Piece.{PieceValue, ends_in, kind_of}
 use Rattle.path_verifier.specs.Walk.{walk_of}
-use Rattle.path_verifier.specs.Accepted.{DoEndIn, MakesPath, MayAdjoin}
+use Rattle.path_verifier.specs.Accepted.{DoEndIn, MakesPath, MayAdjoin, NamesOnce}
+use Rattle.path_verifier.specs.Header.{total_hops}
 use Rattle.path_verifier.proofs.Breaches.{path_kept, hops_kept, word_kept}
 use Rattle.combinator.specs.Candidate.{Question, IsCandidate, path_with, question_of}
 use Rattle.combinator.specs.Answer.{GoesBefore, question_under}
@@ -23,10 +24,10 @@ use Rattle.combinator.proofs.Alike.{path_alike}
 use Rattle.combinator.proofs.Answering.{of_candidate}
 use Rattle.combinator.proofs.Asked.{candidate_of_parts}
 use Rattle.combinator.proofs.Choices.{choices_alike, heads_there, usable_there}
-use Rattle.combinator.proofs.Facts.{HaveNoCandidate, kinds_apart, none_behind_end}
+use Rattle.combinator.proofs.Facts.{HaveNoCandidate, kinds_apart, named_twice, none_behind_end, too_long}
 use Rattle.combinator.proofs.Over.{group_there, live_there, own_there, path_of, to_pieces}
 use Rattle.combinator.proofs.Prefix.{both_groups, over_all}
-use Rattle.combinator.proofs.Passing.{each_longer, each_tried}
+use Rattle.combinator.proofs.Passing.{each_longer, each_tried, more_hops}
 use Rattle.combinator.proofs.Tried.{ends_with, one_end}
 use Rattle.combinator.proofs.Trying.{WasTriedOver, for_more, tried_here}
 use Rattle.combinator.proofs.Joined.{walk_alike}
@@ -55,6 +56,12 @@ not_before_itself i one other is goes =
 pub still_best : (best : Option ℕ) (Q : ℕ → Type 0) → IfSome best (λ place. (best ≡ Some place) ⊎ Q place)
 still_best None Q = tt
 still_best (Some place) Q = inl refl
+
+-- an option that allows the walk of a path
+pub allowed_path : (Path : Type 0) → Path → (best next : Option ℕ) (Q : ℕ → Type 0)
+    → IfSome next (λ place. (best ≡ Some place) ⊎ Q place) → IfSome next (λ place. (best ≡ Some place) ⊎ (Path × Q place))
+allowed_path Path path best None Q is = tt
+allowed_path Path path best (Some place) Q is = elim is [ inl same ↦ inl same | inr allowed ↦ inr (path, allowed) ]
 
 module _ (options : List WeighedRules) where
   -- an option that goes before the best one takes its place
@@ -150,7 +157,7 @@ module _ (set : Selection) (src dst : ℕ) (options : List WeighedRules) where
   passed_on next best later groups none = λ pieces of place option there wanted header is.
       none pieces of place option there (later place option wanted) header is
 
-  passed_where_none : (best : Option ℕ) (groups : List GroupValue)
+  pub passed_where_none : (best : Option ℕ) (groups : List GroupValue)
       → ((rules : Rules) → HaveNoCandidate (question_of set src dst rules) groups) → Passed best groups
   unfolding LeaveNone
   passed_where_none best groups none = λ pieces of place option there wanted header is.
@@ -180,7 +187,7 @@ module _ (set : Selection) (src dst : ℕ) (options : List WeighedRules) where
         never (path_of_heads option.rules pieces header of is)
 
     module _ (walk : List WalkHop) (is_walk : walk ≡ walk_of (heads_of groups)) where
-      pub passed_allowed : (best : Option ℕ) → AllowNone options best walk → Passed best groups
+      passed_allowed : (best : Option ℕ) → AllowNone options best walk → Passed best groups
       unfolding LeaveNone
       passed_allowed best none = λ pieces of place option there wanted header is.
           let are = (are_for option.rules).are in
@@ -191,7 +198,14 @@ module _ (set : Selection) (src dst : ℕ) (options : List WeighedRules) where
             subst (λ (hops : List WalkHop). HasWord option.rules.sequence hops) same (word_kept is.accepted),
           )
 
-      pub leaves_allowed : MakesPath (heads_of groups) src dst set.moment → (place : ℕ) → IsAllowed options walk place
+      -- if it is a path, the option allows none of them
+      pub passed_if_path : (best : Option ℕ) → (MakesPath (heads_of groups) src dst set.moment → AllowNone options best walk)
+          → Passed best groups
+      unfolding LeaveNone
+      passed_if_path best none = λ pieces of place option there wanted header is.
+          passed_allowed best (none (path_of_heads option.rules pieces header of is)) pieces of place option there wanted header is
+
+      leaves_allowed : MakesPath (heads_of groups) src dst set.moment → (place : ℕ) → IsAllowed options walk place
           → LeavesPath (question_under set src dst) options place
       leaves_allowed path place is =
           let question = question_under set src dst is.option in
@@ -204,14 +218,13 @@ module _ (set : Selection) (src dst : ℕ) (options : List WeighedRules) where
                 is.allows.0 is.allows.1;
           }
 
-      pub leaves_on : MakesPath (heads_of groups) src dst set.moment → (best next : Option ℕ)
-          → IfSome best (LeavesPath (question_under set src dst) options)
-          → IfSome next (λ place. (best ≡ Some place) ⊎ IsAllowed options walk place)
+      pub leaves_on : (best next : Option ℕ) → IfSome best (LeavesPath (question_under set src dst) options)
+          → IfSome next (λ place. (best ≡ Some place) ⊎ (MakesPath (heads_of groups) src dst set.moment × IsAllowed options walk place))
           → IfSome next (LeavesPath (question_under set src dst) options)
-      leaves_on path best None leaves is = tt
-      leaves_on path best (Some place) leaves is = elim is [
+      leaves_on best None leaves is = tt
+      leaves_on best (Some place) leaves is = elim is [
         | inl same ↦ subst (λ (b : Option ℕ). IfSome b (LeavesPath (question_under set src dst) options)) same leaves
-        | inr allowed ↦ leaves_allowed path place allowed
+        | inr both ↦ leaves_allowed both.0 place both.1
       ]
 
 -- ---- the pass
@@ -256,6 +269,28 @@ module _ (set : Selection) (src dst : ℕ) (options : List WeighedRules) (groups
         (passed_where_none set src dst options best (before ++ last ∷ group ∷ later)
         (λ rules. kinds_apart (question_of set src dst rules) before later last group
         (subst (AllByRecursion IsGroup) same (both_groups front (group ∷ later) (are_for rules).are (here_is, also))) never))) left at
+
+    -- with the group there are more hop fields than a path may have
+    pub from_too_many : 64 < total_hops (heads_of (front ++ group ∷ []))
+        → WasTriedOver (Passed set src dst options best) groups left front at group
+    from_too_many many =
+        each_tried (Passed set src dst options best) groups each_is front group
+        (λ later also. passed_where_none set src dst options best (front ++ group ∷ later)
+        (λ rules. too_long (question_of set src dst rules) (front ++ group ∷ later)
+        (both_groups front (group ∷ later) (are_for rules).are (here_is, also))
+        (let more = more_hops front later group in omega (arith, many, more)))) left at
+
+    -- with the group an AS is passed twice
+    pub from_twice : ¬ (NamesOnce (walk_of (heads_of (front ++ group ∷ []))))
+        → WasTriedOver (Passed set src dst options best) groups left front at group
+    from_twice never =
+        each_tried (Passed set src dst options best) groups each_is front group
+        (λ later also.
+        let same : (front ++ group ∷ []) ++ later ≡ front ++ group ∷ later = append_assoc front (group ∷ []) later in
+        subst (Passed set src dst options best) same
+        (passed_where_none set src dst options best ((front ++ group ∷ []) ++ later)
+        (λ rules. named_twice (question_of set src dst rules) (front ++ group ∷ []) later
+        (subst (AllByRecursion IsGroup) (sym same) (both_groups front (group ∷ later) (are_for rules).are (here_is, also))) never))) left at
 
     -- the group ends in the destination
     pub from_end : ends_in group.head ≡ dst → (longer : List GroupValue) → longer ≡ front ++ group ∷ []

@@ -15,4 +15,4 @@ combiner_of set src dst = record { set = set; src = src; dst = dst }
 
 -- the question for the paths under a policy
 abbrev pub asked_of : CombinerValue → Rules → Question
-asked_of of rules = question_of of.set of.src of.dst rules
+asked_of combiner rules = question_of combiner.set combiner.src combiner.dst rules

@@ -83,8 +83,9 @@ impl<'s> Combiner<'s> {
     /// The walks of the paths that may be sent under a policy: all of them, or `limit` of them if
     /// there are as many.
     ///
-    /// Each list of groups that meet takes h steps of the verifier for its h hops, and what the
-    /// policy takes, until there are `limit` walks. The memory is that of groups and walks.
+    /// Of each list of groups that meet, the hops of the last one are compared with those before
+    /// them, at most h² / 2 comparisons for a walk of h hops, and the policy is asked, until there
+    /// are `limit` walks. The memory is that of groups and walks.
     ///
     /// [`AllocError`] if memory runs out.
     pub fn walks<A: Allocator + Clone>(

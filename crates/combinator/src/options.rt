@@ -5,16 +5,23 @@
 //! one.
 
 ghost use Rattle.std.specs.Prelude.{◌≡◌, ◌⊎◌, ◌↔◌, ◌+◌, ◌<◌, ◌≤◌, [], length, IfSome, IsFalse, IsTrue, Some};
+ghost use Rattle.path_verifier.specs.Accepted.{AreLive, MakesPath, NamesOnce};
+ghost use Rattle.path_verifier.specs.Header.{total_hops};
+ghost use Rattle.path_verifier.specs.Walk.{walk_of};
 ghost use Rattle.combinator.specs.Answer.{GoesBefore, question_under};
 ghost use Rattle.combinator.specs.inner.Choice.{AllowNone, Allows, AreForAny, GoesNoLater, HaveNone, IsAllowed, IsFirst, IsWanted, LeaveNone, LeavesPath, MayChoose};
 ghost use Rattle.combinator.specs.inner.Front.{groups_in};
+ghost use Rattle.combinator.specs.inner.Gathered.{GoesOnTo};
+ghost use Rattle.combinator.specs.inner.Group.{heads_of};
 ghost use Rattle.combinator.specs.inner.Over.{OfChoices, OfEachOver};
 
 use crate::front::Front;
+use crate::group::Group;
 use crate::groups::Groups;
 use crate::request::{ChoiceRequest, allows};
 use isd_as::IsdAs;
-use path_verifier::Walk;
+use path_header::MAX_HOPS;
+use path_verifier::{Pieces, Walk};
 use policy_expr::{PolicyOption, WalkHop};
 use std::alloc::Allocator;
 
@@ -44,15 +51,18 @@ pub(crate) fn used_option<'g, 'a, 's, 'p, A: Allocator + Clone>(
         groups,
         first: first_option(request.options),
     };
-    pass.try_behind(None, &Front::Zero, request.src, 3)
+    let mut walk = Walk::new();
+    pass.try_behind(None, &mut walk, &Front::Zero, request.src, 3)
 }
 
 impl<'g, 'a, 's, 'p, A: Allocator + Clone> Pass<'g, 'a, 's, 'p, A> {
     /// The best option after the paths that begin with pieces of these groups and go on, from the
-    /// AS `at`, with pieces of one to `depth` more.
+    /// AS `at`, with pieces of one to `depth` more. The walk of these groups goes on by each of
+    /// them in turn.
     fn try_behind(
         &self,
         best: Option<usize>,
+        walk: &mut Walk,
         front: &Front<'g, 'a, 's>,
         at: IsdAs,
         depth: usize,
@@ -64,8 +74,11 @@ impl<'g, 'a, 's, 'p, A: Allocator + Clone> Pass<'g, 'a, 's, 'p, A> {
             IfSome best (LeavesPath (question_under ask.set.now ask.src ask.dst) ask.options.now) }
         requires front { let ask = self.now.request.now in
             AreForAny ask.set.now ask.src ask.dst (groups_in front.now) }
+        requires walk { walk.old ≡ walk_of (heads_of (groups_in front.now)) }
+        requires once { NamesOnce walk.old }
         requires some { 0 < depth }
         requires few { length (groups_in front.now) + depth ≤ 3 }
+        ensures walk { walk.new ≡ walk.old }
         ensures leaves { let ask = self.now.request.now in
             IfSome result (LeavesPath (question_under ask.set.now ask.src ask.dst) ask.options.now) }
         ensures later { GoesNoLater self.now.request.now.options.now result best }
@@ -74,6 +87,7 @@ impl<'g, 'a, 's, 'p, A: Allocator + Clone> Pass<'g, 'a, 's, 'p, A> {
             ask.options.now result)) self.now.groups.now depth (groups_in front.now) at }
     {
         let (request, groups) = (self.request, self.groups);
+        let len = walk.len();
         let mut next = best;
         let next_groups = groups.groups_from(at);
         for group in next_groups {
@@ -84,15 +98,23 @@ impl<'g, 'a, 's, 'p, A: Allocator + Clone> Pass<'g, 'a, 's, 'p, A> {
                 continue;
             }
             let longer = front.with(group);
+            if longer.hop_count() > MAX_HOPS {
+                continue;
+            }
             let end = group.ends();
             if end == request.dst {
-                next = self.try_paths(next, &longer);
+                next = self.try_paths(next, walk, group, &longer);
                 continue;
             }
             if depth == 1 {
                 continue;
             }
-            next = self.try_behind(next, &longer, end, depth - 1);
+            if !walk.go_on_by(&group.head().piece()) {
+                walk.shorten(len);
+                continue;
+            }
+            next = self.try_behind(next, walk, &longer, end, depth - 1);
+            walk.shorten(len);
         }
         next
     }
@@ -107,13 +129,23 @@ impl<'g, 'a, 's, 'p, A: Allocator + Clone> Pass<'g, 'a, 's, 'p, A> {
         }
     }
 
-    /// The best option after the paths of these groups.
-    fn try_paths(&self, best: Option<usize>, front: &Front<'g, 'a, 's>) -> Option<usize>
+    /// The best option after the paths of these groups. Their walk goes on by the last of them from
+    /// the walk of the others.
+    fn try_paths(
+        &self,
+        best: Option<usize>,
+        walk: &mut Walk,
+        group: &Group<'_, '_>,
+        front: &Front<'g, 'a, 's>,
+    ) -> Option<usize>
         requires leaves { let ask = self.now.request.now in
             IfSome best (LeavesPath (question_under ask.set.now ask.src ask.dst) ask.options.now) }
         requires front { let ask = self.now.request.now in
             AreForAny ask.set.now ask.src ask.dst (groups_in front.now) }
-        requires some { 0 < length (groups_in front.now) }
+        requires walk { GoesOnTo walk.old group.now (groups_in front.now) }
+        requires once { NamesOnce walk.old }
+        requires few { total_hops (heads_of (groups_in front.now)) ≤ 64 }
+        ensures walk { walk.new ≡ walk.old }
         ensures leaves { let ask = self.now.request.now in
             IfSome result (LeavesPath (question_under ask.set.now ask.src ask.dst) ask.options.now) }
         ensures later { GoesNoLater self.now.request.now.options.now result best }
@@ -121,10 +153,32 @@ impl<'g, 'a, 's, 'p, A: Allocator + Clone> Pass<'g, 'a, 's, 'p, A> {
             OfChoices (LeaveNone (question_under ask.set.now ask.src ask.dst) ask.options.now result)
             (groups_in front.now) }
     {
+        let len = walk.len();
+        if !walk.go_on_by(&group.head().piece()) {
+            walk.shorten(len);
+            return best;
+        }
+        let next = self.best_on(best, walk, &front.heads().pieces());
+        walk.shorten(len);
+        next
+    }
+
+    /// The best option after live pieces with this walk, which passes no AS twice.
+    fn best_on(&self, best: Option<usize>, walk: &Walk, pieces: &Pieces<'_>) -> Option<usize>
+        requires held { IfSome best (λ place. place < length self.now.request.now.options.now) }
+        requires walk { walk.now ≡ walk_of pieces.now }
+        requires live { AreLive self.now.request.now.set.now.moment pieces.now }
+        requires once { NamesOnce walk.now }
+        ensures allowed { let ask = self.now.request.now in IfSome result (λ place.
+            (best ≡ Some place) ⊎ (MakesPath pieces.now ask.src ask.dst ask.set.now.moment
+            × IsAllowed ask.options.now walk.now place)) }
+        ensures later { GoesNoLater self.now.request.now.options.now result best }
+        ensures none { let ask = self.now.request.now in
+            MakesPath pieces.now ask.src ask.dst ask.set.now.moment
+            → AllowNone ask.options.now result walk.now }
+    {
         let request = self.request;
-        let pieces = front.heads().pieces();
-        let mut walk = Walk::new();
-        match walk.follow_path(&pieces, request.src, request.dst, request.set.now()) {
+        match pieces.check_shape(request.src, request.dst) {
             Ok(()) => best_for(request.options, best, walk.as_slice()),
             Err(_) => best,
         }

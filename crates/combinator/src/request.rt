@@ -48,40 +48,20 @@ impl<'s, 'p, A: Allocator + Clone> PathRequest<'s, 'p, A> {
         }
     }
 
-    /// Whether a path of pieces of the set may be sent; then makes a walk its walk.
-    pub(crate) fn may_send(&self, walk: &mut Walk, found: &Found<'_, '_>) -> bool
-        requires own { All (IsOf self.now.set) found.now.pieces }
-        ensures walk { IsTrue result → walk.new ≡ walk_of found.now.pieces }
-        ensures candidate { IsTrue result ↔ IsCandidate self.now found.now }
-    {
-        found.known();
-        if !self.makes_path(walk, found) {
-            return false;
-        }
-        allows(self.policy, walk.as_slice())
-    }
-
-    /// Whether live pieces of the set, with this walk, are a path that may be sent.
-    pub(crate) fn may_send_live(&self, pieces: &Pieces<'_>, walk: &Walk) -> bool
+    /// Whether live pieces of the set, with this walk, which passes no AS twice, are a path that
+    /// may be sent.
+    pub(crate) fn may_send(&self, pieces: &Pieces<'_>, walk: &Walk) -> bool
         requires own { All (IsOf self.now.set) pieces.now }
         requires live { AreLive self.now.set.moment pieces.now }
         requires walk { walk.now ≡ walk_of pieces.now }
-        ensures { IsTrue result ↔ IsCandidate self.now (path_with pieces.now (header_of pieces.now)) }
+        requires once { NamesOnce walk.now }
+        ensures { IsTrue result
+            ↔ IsCandidate self.now (path_with pieces.now (header_of pieces.now)) }
     {
         match pieces.check_shape(self.src, self.dst) {
-            Ok(()) => self.allows_once(walk),
+            Ok(()) => allows(self.policy, walk.as_slice()),
             Err(_) => false,
         }
-    }
-
-    /// Whether a walk passes no AS twice and the policy allows it.
-    fn allows_once(&self, walk: &Walk) -> bool
-        ensures { IsTrue result ↔ (NamesOnce walk.now × Allows self.now.rules walk.now) }
-    {
-        if !walk.names_once() {
-            return false;
-        }
-        allows(self.policy, walk.as_slice())
     }
 
     /// The path that was found, if it may be sent.

@@ -3,11 +3,17 @@
 //! All lists of groups that meet are tried, but for those that can't be among the first paths. Of
 //! each list the best path is looked at alone.
 
-ghost use Rattle.std.specs.Prelude.{◌≡◌, ◌+◌, ◌<◌, ◌≤◌, ◌∷◌, ◌++◌, [], length, All, IfOk, IsTrue, IsFalse, OnOk};
+ghost use Rattle.std.specs.Prelude.{◌≡◌, ◌↔◌, ◌+◌, ◌<◌, ◌≤◌, ◌∷◌, ◌++◌, [], length, All, IfOk, IsTrue, IsFalse, OnOk};
 ghost use Rattle.std.specs.List.{AllByRecursion};
+ghost use Rattle.path_verifier.specs.Accepted.{AreLive, NamesOnce};
+ghost use Rattle.path_verifier.specs.Header.{total_hops};
+ghost use Rattle.path_verifier.specs.Walk.{walk_of};
 ghost use Rattle.combinator.specs.Answer.{IsBest};
+ghost use Rattle.combinator.specs.Candidate.{IsOf};
 ghost use Rattle.combinator.specs.Order.{path_cmp};
 ghost use Rattle.combinator.specs.inner.Front.{groups_in};
+ghost use Rattle.combinator.specs.inner.Gathered.{GoesOnTo};
+ghost use Rattle.combinator.specs.inner.Group.{heads_of};
 ghost use Rattle.combinator.specs.inner.Over.{AreFor, MaySearch, OfChoices, OfEachOver};
 ghost use Rattle.combinator.specs.inner.Placed.{InOrder};
 ghost use Rattle.combinator.specs.inner.Search.{AreBefore, AreKept, IsMetBy, StillMeet};
@@ -31,7 +37,7 @@ pub(crate) struct Search<'g, 'a, 's, 'p, A: Allocator + Clone> {
     pub(crate) limit: usize,
 }
 
-/// What a search has found so far, and room for a walk.
+/// What a search has found so far, and the walk of the groups that it goes on from.
 #[derive(Drop)]
 struct SearchState<'a, 's> {
     kept: Vec<Found<'a, 's>>,
@@ -62,7 +68,7 @@ pub(crate) fn first_paths<'g, 'a, 's, 'p, A: Allocator + Clone>(
 
 impl<'g, 'a, 's, 'p, A: Allocator + Clone> Search<'g, 'a, 's, 'p, A> {
     /// Tries the paths that begin with pieces of these groups and go on, from the AS `at`, with
-    /// pieces of one to `depth` more.
+    /// pieces of one to `depth` more. The walk of these groups goes on by each of them in turn.
     fn try_behind(
         &self,
         state: &mut SearchState<'a, 's>,
@@ -73,8 +79,11 @@ impl<'g, 'a, 's, 'p, A: Allocator + Clone> Search<'g, 'a, 's, 'p, A> {
         requires search { MaySearch self.now.ask.now self.now.groups.now }
         requires kept { AreKept self.now.ask.now self.now.limit state.old.kept.items }
         requires front { AreFor self.now.ask.now (groups_in front.now) }
+        requires walk { state.old.walk ≡ walk_of (heads_of (groups_in front.now)) }
+        requires once { NamesOnce state.old.walk }
         requires some { 0 < depth }
         requires few { length (groups_in front.now) + depth ≤ 3 }
+        ensures walk { OnOk result (state.new.walk ≡ state.old.walk) }
         ensures kept { OnOk result
             (AreKept self.now.ask.now self.now.limit state.new.kept.items) }
         ensures still { OnOk result
@@ -84,6 +93,7 @@ impl<'g, 'a, 's, 'p, A: Allocator + Clone> Search<'g, 'a, 's, 'p, A> {
             self.now.groups.now depth (groups_in front.now) at) }
     {
         let (ask, groups) = (self.ask, self.groups);
+        let len = state.walk.len();
         let next_groups = groups.groups_from(at);
         for group in next_groups {
             if !front.may_go_on(group.kind()) {
@@ -93,9 +103,12 @@ impl<'g, 'a, 's, 'p, A: Allocator + Clone> Search<'g, 'a, 's, 'p, A> {
                 continue;
             }
             let longer = front.with(group);
+            if longer.hop_count() > MAX_HOPS {
+                continue;
+            }
             let end = group.ends();
             if end == ask.dst {
-                self.consider(state, &longer)?;
+                self.consider(state, group, &longer)?;
                 continue;
             }
             if depth == 1 {
@@ -104,22 +117,31 @@ impl<'g, 'a, 's, 'p, A: Allocator + Clone> Search<'g, 'a, 's, 'p, A> {
             if is_behind(&state.kept, self.limit, front, group, 1) {
                 continue;
             }
+            if !state.walk.go_on_by(&group.head().piece()) {
+                state.walk.shorten(len);
+                continue;
+            }
             self.try_behind(state, &longer, end, depth - 1)?;
+            state.walk.shorten(len);
         }
         Ok(())
     }
 
     /// Keeps the best path of these groups, if it is the best for its walk and may be among the
-    /// first.
+    /// first. Its walk goes on by the last of them from the walk of the others.
     fn consider(
         &self,
         state: &mut SearchState<'a, 's>,
+        group: &Group<'_, '_>,
         front: &Front<'g, 'a, 's>,
     ) -> Result<(), AllocError>
         requires search { MaySearch self.now.ask.now self.now.groups.now }
         requires kept { AreKept self.now.ask.now self.now.limit state.old.kept.items }
         requires front { AreFor self.now.ask.now (groups_in front.now) }
-        requires some { 0 < length (groups_in front.now) }
+        requires walk { GoesOnTo state.old.walk group.now (groups_in front.now) }
+        requires once { NamesOnce state.old.walk }
+        requires few { total_hops (heads_of (groups_in front.now)) ≤ 64 }
+        ensures walk { OnOk result (state.new.walk ≡ state.old.walk) }
         ensures kept { OnOk result
             (AreKept self.now.ask.now self.now.limit state.new.kept.items) }
         ensures still { OnOk result
@@ -128,22 +150,40 @@ impl<'g, 'a, 's, 'p, A: Allocator + Clone> Search<'g, 'a, 's, 'p, A> {
             (IsMetBy self.now.ask.now self.now.limit state.new.kept.items)
             (groups_in front.now)) }
     {
-        if front.hop_count() > MAX_HOPS {
-            return Ok(());
-        }
-        let ask = self.ask;
         let found = Found::of(best(front));
         if is_met(&state.kept, &found, self.limit) {
             return Ok(());
         }
-        if !ask.may_send(&mut state.walk, &found) {
+        let len = state.walk.len();
+        if !state.walk.go_on_by(&group.head().piece()) {
+            state.walk.shorten(len);
             return Ok(());
         }
-        if self.has_better(&found, state.walk.as_slice(), &Front::Zero, ask.src, 3) {
+        if !self.is_best(&found, &state.walk) {
+            state.walk.shorten(len);
             return Ok(());
         }
+        state.walk.shorten(len);
         take_in(&mut state.kept, found, self.limit)?;
         Ok(())
+    }
+
+    /// Whether a path of live pieces, with this walk, which passes no AS twice, may be sent and is
+    /// the best for the walk.
+    fn is_best(&self, found: &Found<'a, 's>, walk: &Walk) -> bool
+        requires search { MaySearch self.now.ask.now self.now.groups.now }
+        requires own { All (IsOf self.now.ask.now.set) found.now.pieces }
+        requires live { AreLive self.now.ask.now.set.moment found.now.pieces }
+        requires walk { walk.now ≡ walk_of found.now.pieces }
+        requires once { NamesOnce walk.now }
+        ensures { IsTrue result ↔ IsBest self.now.ask.now found.now }
+    {
+        let ask = self.ask;
+        found.known();
+        if !ask.may_send(&found.pieces(), walk) {
+            return false;
+        }
+        !self.has_better(found, walk.as_slice(), &Front::Zero, ask.src, 3)
     }
 }
 

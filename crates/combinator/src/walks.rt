@@ -5,12 +5,13 @@
 
 ghost use Rattle.std.specs.Prelude.{◌≡◌, ◌↔◌, ◌+◌, ◌<◌, ◌≤◌, [], length, All, Contains, IfNone, IfOk, IfSome, IsTrue, OnOk, List, option_map, slice_get};
 ghost use Rattle.policy_expr.specs.declared.hop.WalkHop.{WalkHop};
+ghost use Rattle.path_verifier.specs.Accepted.{NamesOnce};
+ghost use Rattle.path_verifier.specs.Header.{total_hops};
+ghost use Rattle.path_verifier.specs.Walk.{walk_of};
 ghost use Rattle.combinator.specs.Candidate.{Question};
 ghost use Rattle.combinator.specs.Order.{walk_cmp};
 ghost use Rattle.combinator.specs.Walks.{AreWalks, IsWalkOf};
 ghost use Rattle.combinator.specs.inner.Front.{groups_in};
-ghost use Rattle.path_verifier.specs.Walk.{walk_of};
-ghost use Rattle.path_verifier.specs.Header.{total_hops};
 ghost use Rattle.combinator.specs.inner.Gathered.{AreGathered, GoesOnTo, IsListed, StillList, hops_in};
 ghost use Rattle.combinator.specs.inner.Group.{heads_of};
 ghost use Rattle.combinator.specs.inner.Over.{AreFor, MaySearch, OfChoices, OfEachOver};
@@ -34,6 +35,8 @@ use std::marker::Model;
 #[derive(Drop)]
 pub struct Walks {
     walks: Vec<Vec<WalkHop>>,
+    /// The place of the walk that came in last; the next one mostly belongs beside it.
+    last: usize,
 }
 
 impl Model for Walks {
@@ -47,6 +50,16 @@ impl Model for Walks {
 }
 
 impl Walks {
+    /// No walks.
+    fn new(alloc: Global) -> Self
+        ensures { result ≡ [] }
+    {
+        Self {
+            walks: Vec::new(alloc),
+            last: 0,
+        }
+    }
+
     /// The number of walks.
     pub fn len(&self) -> usize
         ensures { result ≡ length self.now }
@@ -69,6 +82,27 @@ impl Walks {
             Some(walk) => Some(walk.as_slice()),
             None => None,
         }
+    }
+
+    /// Adds a walk to those in order, unless it is among them.
+    fn take_in(&mut self, alloc: Global, walk: &[WalkHop]) -> Result<(), AllocError>
+        requires { InOrder walk_cmp self.old }
+        ensures order { OnOk result (InOrder walk_cmp self.new) }
+        ensures few { OnOk result (length self.new ≤ length self.old + 1) }
+        ensures there { OnOk result (Contains self.new walk.now) }
+        ensures others { OnOk result ((other : List WalkHop)
+            → Contains self.old other → Contains self.new other) }
+        ensures each { OnOk result ((question : Question)
+            → All (IsWalkOf question) self.old → IsWalkOf question walk.now
+            → All (IsWalkOf question) self.new) }
+    {
+        let Some(place) = place_in(&self.walks, walk, self.last) else {
+            return Ok(());
+        };
+        let copy = Vec::from_slice(alloc, walk)?;
+        self.walks.insert(place, copy)?;
+        self.last = place;
+        Ok(())
     }
 }
 
@@ -97,37 +131,38 @@ pub(crate) fn gathered<'g, 'a, 's, 'p, A: Allocator + Clone>(
         groups,
         limit,
     };
-    let mut walks = Vec::new(alloc);
+    let mut walks = Walks::new(alloc);
     let mut walk = Walk::new();
     gathering.try_behind(&mut walks, &mut walk, &Front::Zero, ask.src, 3)?;
-    Ok(Walks { walks })
+    Ok(walks)
 }
 
 impl<'g, 'a, 's, 'p, A: Allocator + Clone> Gathering<'g, 'a, 's, 'p, A> {
     /// Adds the walks of the paths that begin with pieces of these groups and go on, from the AS
-    /// `at`, with pieces of one to `depth` more. The walk of these groups goes on by each of them in
-    /// turn.
+    /// `at`, with pieces of one to `depth` more. The walk of these groups goes on by each of them
+    /// in turn.
     fn try_behind(
         &self,
-        walks: &mut Vec<Vec<WalkHop>>,
+        walks: &mut Walks,
         walk: &mut Walk,
         front: &Front<'g, 'a, 's>,
         at: IsdAs,
         depth: usize,
     ) -> Result<(), AllocError>
         requires search { MaySearch self.now.ask.now self.now.groups.now }
-        requires gathered { AreGathered self.now.ask.now self.now.limit (hops_in walks.old.items) }
+        requires gathered { AreGathered self.now.ask.now self.now.limit walks.old }
         requires front { AreFor self.now.ask.now (groups_in front.now) }
         requires walk { walk.old ≡ walk_of (heads_of (groups_in front.now)) }
+        requires once { NamesOnce walk.old }
         requires some { 0 < depth }
         requires few { length (groups_in front.now) + depth ≤ 3 }
         ensures walk { OnOk result (walk.new ≡ walk.old) }
         ensures gathered { OnOk result
-            (AreGathered self.now.ask.now self.now.limit (hops_in walks.new.items)) }
+            (AreGathered self.now.ask.now self.now.limit walks.new) }
         ensures still { OnOk result
-            (StillList self.now.limit (hops_in walks.old.items) (hops_in walks.new.items)) }
+            (StillList self.now.limit walks.old walks.new) }
         ensures listed { OnOk result (OfEachOver
-            (OfChoices (IsListed self.now.ask.now self.now.limit (hops_in walks.new.items)))
+            (OfChoices (IsListed self.now.ask.now self.now.limit walks.new))
             self.now.groups.now depth (groups_in front.now) at) }
     {
         let (ask, groups) = (self.ask, self.groups);
@@ -152,7 +187,10 @@ impl<'g, 'a, 's, 'p, A: Allocator + Clone> Gathering<'g, 'a, 's, 'p, A> {
             if depth == 1 {
                 continue;
             }
-            walk.go_on_by(&group.head().piece());
+            if !walk.go_on_by(&group.head().piece()) {
+                walk.shorten(len);
+                continue;
+            }
             self.try_behind(walks, walk, &longer, end, depth - 1)?;
             walk.shorten(len);
         }
@@ -163,61 +201,44 @@ impl<'g, 'a, 's, 'p, A: Allocator + Clone> Gathering<'g, 'a, 's, 'p, A> {
     /// them from the walk of the others.
     fn add_walk(
         &self,
-        walks: &mut Vec<Vec<WalkHop>>,
+        walks: &mut Walks,
         walk: &mut Walk,
         group: &Group<'_, '_>,
         front: &Front<'g, 'a, 's>,
     ) -> Result<(), AllocError>
-        requires gathered { AreGathered self.now.ask.now self.now.limit (hops_in walks.old.items) }
+        requires gathered { AreGathered self.now.ask.now self.now.limit walks.old }
         requires front { AreFor self.now.ask.now (groups_in front.now) }
         requires walk { GoesOnTo walk.old group.now (groups_in front.now) }
+        requires once { NamesOnce walk.old }
         requires few { total_hops (heads_of (groups_in front.now)) ≤ 64 }
-        requires room { length (hops_in walks.old.items) < self.now.limit }
+        requires room { length walks.old < self.now.limit }
         ensures walk { OnOk result (walk.new ≡ walk.old) }
         ensures gathered { OnOk result
-            (AreGathered self.now.ask.now self.now.limit (hops_in walks.new.items)) }
+            (AreGathered self.now.ask.now self.now.limit walks.new) }
         ensures still { OnOk result
-            (StillList self.now.limit (hops_in walks.old.items) (hops_in walks.new.items)) }
+            (StillList self.now.limit walks.old walks.new) }
         ensures listed { OnOk result
-            (OfChoices (IsListed self.now.ask.now self.now.limit (hops_in walks.new.items))
+            (OfChoices (IsListed self.now.ask.now self.now.limit walks.new)
             (groups_in front.now)) }
     {
         let len = walk.len();
-        walk.go_on_by(&group.head().piece());
-        if !self.ask.may_send_live(&front.heads().pieces(), walk) {
+        if !walk.go_on_by(&group.head().piece()) {
             walk.shorten(len);
             return Ok(());
         }
-        take_in(self.alloc, walks, walk.as_slice())?;
+        if !self.ask.may_send(&front.heads().pieces(), walk) {
+            walk.shorten(len);
+            return Ok(());
+        }
+        walks.take_in(self.alloc, walk.as_slice())?;
         walk.shorten(len);
         Ok(())
     }
 }
 
-/// Adds a walk to those in order, unless it is among them.
-fn take_in(alloc: Global, walks: &mut Vec<Vec<WalkHop>>, walk: &[WalkHop]) -> Result<(), AllocError>
-    requires { InOrder walk_cmp (hops_in walks.old.items) }
-    ensures order { OnOk result (InOrder walk_cmp (hops_in walks.new.items)) }
-    ensures few { OnOk result
-        (length (hops_in walks.new.items) ≤ length (hops_in walks.old.items) + 1) }
-    ensures there { OnOk result (Contains (hops_in walks.new.items) walk.now) }
-    ensures others { OnOk result ((other : List WalkHop)
-        → Contains (hops_in walks.old.items) other → Contains (hops_in walks.new.items) other) }
-    ensures each { OnOk result ((question : Question)
-        → All (IsWalkOf question) (hops_in walks.old.items) → IsWalkOf question walk.now
-        → All (IsWalkOf question) (hops_in walks.new.items)) }
-{
-    let Some(place) = place_in(walks, walk) else {
-        return Ok(());
-    };
-    let copy = Vec::from_slice(alloc, walk)?;
-    walks.insert(place, copy)?;
-    Ok(())
-}
-
 /// The place where a walk belongs among those in order, or nothing if it is there. It is looked for
-/// from the end, in steps that double, since walks are met nearly in order.
-fn place_in(walks: &[Vec<WalkHop>], walk: &[WalkHop]) -> Option<usize>
+/// from the place `near` on, in steps that double.
+fn place_in(walks: &[Vec<WalkHop>], walk: &[WalkHop], near: usize) -> Option<usize>
     requires { InOrder walk_cmp (hops_in walks.now) }
     ensures there { IfNone result (Contains (hops_in walks.now) walk.now) }
     ensures within { IfSome result (λ place. place ≤ length walks.now) }
@@ -225,10 +246,10 @@ fn place_in(walks: &[Vec<WalkHop>], walk: &[WalkHop]) -> Option<usize>
 {
     let mut low = 0;
     let mut high = walks.len();
-    let mut step = 1;
+    let mut step = 0;
     while low < high {
-        let middle = place_to_look(low, high, step);
-        step = step.saturating_mul(2);
+        let middle = place_to_look(low, high, near, step);
+        step = step.saturating_mul(2).saturating_add(1);
         match compare_walks(&walks[middle], walk) {
             Ordering::Less => low = middle + 1,
             Ordering::Equal => return None,
@@ -238,13 +259,19 @@ fn place_in(walks: &[Vec<WalkHop>], walk: &[WalkHop]) -> Option<usize>
     Some(low)
 }
 
-/// A place from `low` on and before `high`: `step` before it, or halfway.
-fn place_to_look(low: usize, high: usize, step: usize) -> usize
-    requires between { low < high }
-    requires some { 0 < step }
+/// A place from `low` on and before `high`: `near` if it is one; else the one of these that is
+/// `step` behind the nearest to it, or halfway.
+fn place_to_look(low: usize, high: usize, near: usize, step: usize) -> usize
+    requires { low < high }
     ensures from { low ≤ result }
     ensures before { result < high }
 {
     let half = (high - low) / 2;
-    high - step.min(half.max(1))
+    if near < low {
+        return low + step.min(half);
+    }
+    if near < high {
+        return near;
+    }
+    high - 1 - step.min(half)
 }

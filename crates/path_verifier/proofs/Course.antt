@@ -23,12 +23,12 @@ first_in xs = get_or xs 0 0
 abbrev last_in : List ℕ → ℕ
 last_in xs = get_or xs (length xs - 1) 0
 
-ases-left_by : (way : ℕ) (hops : List WalkHop) → ases (left_by way hops) ≡ ases hops
+pub ases-left_by : (way : ℕ) (hops : List WalkHop) → ases (left_by way hops) ≡ ases hops
 ases-left_by way [] = refl
 ases-left_by way (hop ∷ []) = refl
 ases-left_by way (hop ∷ next ∷ later) = ap (λ xs. hop.ia ∷ xs) (ases-left_by way (next ∷ later))
 
-ases-entered_by : (way : ℕ) (hops : List WalkHop) → ases (entered_by way hops) ≡ ases hops
+pub ases-entered_by : (way : ℕ) (hops : List WalkHop) → ases (entered_by way hops) ≡ ases hops
 ases-entered_by way [] = refl
 ases-entered_by way (hop ∷ later) = refl
 
@@ -36,7 +36,7 @@ pub joined_none : (hops : List WalkHop) → walk_with [] hops ≡ hops
 joined_none [] = refl
 joined_none (hop ∷ later) = refl
 
-ases-joined : (walk hops : List WalkHop) → 0 < length walk
+pub ases-joined : (walk hops : List WalkHop) → 0 < length walk
     → ases (walk_with walk hops) ≡ ases walk ++ drop 1 (ases hops)
 ases-joined walk [] some = sym (append-nil (ases walk))
 ases-joined [] (hop ∷ later) some = absurd (omega arith)

@@ -5,6 +5,7 @@ pub mod Hops
 pub mod Headers
 pub mod Breaches
 pub mod Course
+pub mod Going
 pub mod Expiry
 pub mod Living
 pub mod Lengths

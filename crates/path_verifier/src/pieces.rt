@@ -148,6 +148,7 @@ impl<'s> Pieces<'s> {
             → Keeps (request_of self.now header src dst now rules) fault) }
         ensures fault { IfErr result (λ fault. (header : HeaderValue) (now : ℕ) (rules : Rules)
             → IsRefused (request_of self.now header src dst now rules) fault) }
+        ensures early { IfErr result (λ fault. code_of fault < 78) }
     {
         check_shape(&self.held, src, dst)
     }

@@ -27,6 +27,7 @@ pub(crate) fn check_shape(held: &PieceSlots<'_>, src: IsdAs, dst: IsdAs) -> Resu
         → Keeps (request_of (pieces_in held.now) header src dst now rules) fault) }
     ensures fault { IfErr result (λ fault. (header : HeaderValue) (now : ℕ) (rules : Rules)
         → IsRefused (request_of (pieces_in held.now) header src dst now rules) fault) }
+    ensures early { IfErr result (λ fault. code_of fault < 78) }
     ensures some { OnOk result (0 < length (pieces_in held.now)) }
     ensures ranges { OnOk result (AllByRecursion HasRange (pieces_in held.now)) }
     ensures few { OnOk result (total_hops (pieces_in held.now) ≤ 64) }

@@ -7,7 +7,7 @@ ghost use Rattle.path_verifier.specs.Piece.{HasRange};
 ghost use Rattle.path_verifier.specs.Walk.{hop_of, hops_of, entered_by, left_by, with_meeting_hop, walk_with, walk_of};
 ghost use Rattle.path_verifier.specs.Header.{len_of, total_hops};
 ghost use Rattle.path_verifier.specs.Accepted.{NamesOnce};
-ghost use Rattle.path_verifier.specs.inner.Twice.{is_passed, names_twice};
+ghost use Rattle.path_verifier.specs.inner.Twice.{is_any_passed, is_passed, names_again, names_twice};
 
 use crate::piece::Piece;
 use crate::pieces::{PieceSlots, Pieces};
@@ -80,13 +80,6 @@ impl Walk {
     {
         self.len = self.len.min(len);
         self.leave_by(IfId::NONE);
-    }
-
-    /// Whether no two hops are of one AS.
-    pub fn names_once(&self) -> bool
-        ensures { IsTrue result ↔ NamesOnce self.now }
-    {
-        names_once(self.as_slice())
     }
 
     /// The hops, in order.
@@ -204,14 +197,21 @@ impl Walk {
     }
 
     /// Goes on with one more piece: the walk of some pieces becomes that of these and one more.
-    pub fn go_on_by(&mut self, piece: &Piece<'_>)
+    /// Returns whether no two hops are of one AS, if that was so before: only the new hops are
+    /// compared, with each other and with those before.
+    pub fn go_on_by(&mut self, piece: &Piece<'_>) -> bool
         requires range { HasRange piece.now }
         requires few { length self.old + len_of piece.now ≤ 64 }
-        ensures walk { self.new ≡ left_by 0 (entered_by 0 (walk_with self.old (hops_of piece.now))) }
+        ensures walk { self.new
+            ≡ left_by 0 (entered_by 0 (walk_with self.old (hops_of piece.now))) }
+        ensures once { NamesOnce self.old → (IsTrue result ↔ NamesOnce self.new) }
     {
+        let len = self.len();
         self.go_on(piece);
         self.enter_by(IfId::NONE);
         self.leave_by(IfId::NONE);
+        let (front, later) = self.as_slice().split_at(len);
+        !names_again(front, later)
     }
 
     /// Makes a walk of no hops the walk of these pieces.
@@ -273,6 +273,21 @@ fn has_pair_of_one_as(hops: &[WalkHop]) -> bool
         rest = later;
     }
     false
+}
+
+/// Whether one of the first hops is of the AS of a later one, or two of the later ones are of one
+/// AS.
+fn names_again(front: &[WalkHop], later: &[WalkHop]) -> bool
+    ensures { result ≡ names_again front.now later.now }
+{
+    is_any_passed(front, later) || has_pair_of_one_as(later)
+}
+
+/// Whether one of the first hops is of the AS of a later one.
+fn is_any_passed(front: &[WalkHop], later: &[WalkHop]) -> bool
+    ensures { result ≡ is_any_passed front.now later.now }
+{
+    front.iter().any(|hop| is_passed(later, hop.ia))
 }
 
 /// Whether one of these hops is of this AS.

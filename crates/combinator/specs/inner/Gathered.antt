@@ -29,7 +29,8 @@ abbrev pub StillList : (limit : ℕ) (old new : List (List WalkHop)) → Type 0
 StillList limit old new = (walk : List WalkHop) → HasWalk limit old walk → HasWalk limit new walk
 
 -- the walk is that of these groups but for the last, which is this one
-pub record GoesOnTo (walk : List WalkHop) (group : GroupValue) (groups : List GroupValue) : Type 0 where
+pub record GoesOnTo (walk : List WalkHop) (group : GroupValue) (groups : List GroupValue)
+    : Type 0 where
   pub front : List GroupValue
   pub same : groups ≡ front ++ group ∷ []
   pub own : walk ≡ walk_of (heads_of front)

@@ -11,11 +11,8 @@ pub loop-low-preserved-in-Less : goal.loop-low-preserved-in-Less
 loop-low-preserved-in-Less c =
     let upto = c.loop-low.invariant.within in
     let there = c.place_to_look-middle.ensures in
-    let some = c.loop-low.invariant.some in
-    let more = c.saturating_mul-step.ensures in
     let same = length_seen c.args.walks.now in record {
       range = omega (arith, c.loop-low-test.true, there);
-      some = omega (arith, more, some);
       within = upto;
       before = less_upto walk_cmp walk_total (hops_in c.args.walks.now) c.args.walk.now _ c.index-walks-middle.result.items c.requires
           (omega (arith, c.loop-low-test.true, upto, same, there))
@@ -28,11 +25,8 @@ pub loop-low-preserved : goal.loop-low-preserved
 loop-low-preserved c =
     let upto = c.loop-low.invariant.within in
     let there = c.place_to_look-middle.ensures in
-    let some = c.loop-low.invariant.some in
-    let more = c.saturating_mul-step.ensures in
     let same = length_seen c.args.walks.now in record {
       range = omega (arith, c.loop-low-test.true, there);
-      some = omega (arith, more, some);
       within = omega (arith, c.loop-low-test.true, upto, there);
       before = c.loop-low.invariant.before;
       behind = greater_from walk_cmp walk_total (hops_in c.args.walks.now) c.args.walk.now _ c.index-walks-middle.result.items c.requires

@@ -1,5 +1,5 @@
 -- The walk belongs between the two places.
-use Rattle.std.proofs.Common.{◌≡◌, ◌-◌, ◌<◌, ◌≤◌, length}
+use Rattle.std.proofs.Common.{◌≡◌, ◌-◌, ◌≤◌, length}
 use Rattle.std.specs.List.{AllWithin}
 use Rattle.std.specs.declared.cmp.Ordering.TheVariants.{Less, Greater}
 use Rattle.combinator.specs.Order.{walk_cmp}
@@ -9,7 +9,6 @@ use Rattle.combinator.proofs.walks.place_in.Given as goal
 abbrev pub invariant-loop-low : goal.invariant-loop-low
 invariant-loop-low l = record {
   range : l.low ≤ l.high;
-  some : 0 < l.step;
   within : l.high ≤ length l.walks;
   before : AllWithin (λ one. walk_cmp one l.walk ≡ Less) (hops_in l.walks) 0 l.low;
   behind : AllWithin (λ one. walk_cmp one l.walk ≡ Greater) (hops_in l.walks) l.high (length (hops_in l.walks));

@@ -1,4 +1,4 @@
-use Rattle.std.proofs.Common.{◌-◌, take, Contains}
+use Rattle.std.proofs.Common.{◌≡◌, ◌-◌, take, Contains}
 use Rattle.combinator.specs.inner.Front.{groups_in}
 use Rattle.combinator.specs.inner.Group.{GroupValue}
 use Rattle.combinator.specs.inner.Over.{OfChoices}
@@ -11,6 +11,7 @@ decreases-try_behind g l = l.depth
 
 abbrev pub invariant-loop-group : goal.invariant-loop-group
 invariant-loop-group g l = record {
+  walk : l.state.walk ≡ l.fn.state.walk;
   kept : AreKept l.self.ask.now l.self.limit l.state.kept.items;
   still : StillMeet l.self.limit l.fn.state.kept.items l.state.kept.items;
   met : (group : GroupValue) → Contains (take l.group-index l.next_groups) group
