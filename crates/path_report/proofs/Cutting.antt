@@ -120,6 +120,18 @@ module _ (walks : List OpenWalk) (lost : List ℕ) (walk : OpenWalk) (there : Co
     met = ap (λ (l : List ℕ). are_met l walks) (sym (append_assoc lost (place ∷ []) can.others)) ∙ can.met;
   }
 
+-- walks that are met are met by more links
+met_by_more : (walk : OpenWalk) (lost more : List ℕ) → is_met lost walk ≡ true → is_met (lost ++ more) walk ≡ true
+met_by_more walk lost more met =
+    any_append (λ place. crosses_at place walk) lost more ∙ or_left (is_met lost walk) (is_met more walk) met
+
+pub all_met_by_more : (walks : List OpenWalk) (lost more : List ℕ) → are_met lost walks ≡ true → are_met (lost ++ more) walks ≡ true
+all_met_by_more [] lost more met = refl
+all_met_by_more (walk ∷ walks) lost more met =
+    let parts = and_parts (is_met lost walk) (are_met lost walks) met in
+    ap (λ (b : Bool). b && are_met (lost ++ more) walks) (met_by_more walk lost more parts.0)
+    ∙ all_met_by_more walks lost more parts.1
+
 pub cut_already : (walks : List OpenWalk) (lost : List ℕ) (more : ℕ) → are_met lost walks ≡ true → CanCut walks lost more
 cut_already walks lost more met = record {
   others = [];

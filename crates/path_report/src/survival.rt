@@ -1,7 +1,7 @@
 //! How many links may be lost before there is no path.
 
-ghost use Rattle.std.specs.Prelude.{◌≡◌, ◌∷◌, ◌++◌, [], ◌<◌, false, true, length, Contains, IfNone, IfOk, IfSome};
-ghost use Rattle.path_report.specs.inner.Cuts.{CanCut, CannotCut, DoSurvive, are_met, crosses_at, is_met};
+ghost use Rattle.std.specs.Prelude.{◌≡◌, ◌∷◌, ◌++◌, [], ◌<◌, ◌≤◌, false, true, length, take, IfNone, IfOk, IfSome};
+ghost use Rattle.path_report.specs.inner.Cuts.{CanCut, CannotCut, DoSurvive, IsFirstUnmet, are_met, crosses_at, is_met};
 
 use crate::open_walk::OpenWalk;
 use std::alloc::{AllocError, Global};
@@ -23,16 +23,20 @@ fn is_met(walk: &OpenWalk<'_>, lost: &[usize]) -> bool
     lost.iter().any(|place| crosses_at(walk, *place))
 }
 
-/// The first walk that crosses none of the links at these places.
-fn first_unmet<'s, 'w>(walks: &'s [OpenWalk<'w>], lost: &[usize]) -> Option<&'s OpenWalk<'w>>
+/// The place of the first walk that crosses none of the links at these places; all before `from`
+/// cross one.
+fn first_unmet(walks: &[OpenWalk<'_>], from: usize, lost: &[usize]) -> Option<usize>
+    requires within { from ≤ length walks.now }
+    requires met { are_met lost.now (take from walks.now) ≡ true }
     ensures none { IfNone result (are_met lost.now walks.now ≡ true) }
-    ensures some { IfSome result (λ walk. Contains walks.now walk.now) }
-    ensures unmet { IfSome result (λ walk. is_met lost.now walk.now ≡ false) }
+    ensures some { IfSome result (IsFirstUnmet lost.now walks.now) }
 {
-    for walk in walks {
-        if !is_met(walk, lost) {
-            return Some(walk);
+    let mut place = from;
+    while place < walks.len() {
+        if !is_met(&walks[place], lost) {
+            return Some(place);
         }
+        place += 1;
     }
     None
 }
@@ -47,26 +51,31 @@ fn with_place(alloc: Global, lost: &[usize], place: usize) -> Result<Vec<usize>,
 }
 
 /// Whether the links at these places and at most `more` others can be chosen so that each walk
-/// crosses one of them. One of the others has to be of the first walk that crosses none of these:
-/// so it takes the time of the walks for each of h others of a walk of h links, `more` times over.
+/// crosses one of them; all before `from` cross one of these. One of the others has to be of the
+/// first walk that crosses none: so it takes the time of the walks behind for each of h others of a
+/// walk of h links, `more` times over.
 fn can_cut(
     alloc: Global,
     walks: &[OpenWalk<'_>],
+    from: usize,
     lost: &[usize],
     more: usize,
 ) -> Result<bool, AllocError>
+    requires within { from ≤ length walks.now }
+    requires met { are_met lost.now (take from walks.now) ≡ true }
     ensures yes { IfOk result (λ is. is ≡ true → CanCut walks.now lost.now more) }
     ensures no { IfOk result (λ is. is ≡ false → CannotCut walks.now lost.now more) }
 {
-    let Some(walk) = first_unmet(walks, lost) else {
+    let Some(unmet) = first_unmet(walks, from, lost) else {
         return Ok(true);
     };
+    let walk = &walks[unmet];
     if more == 0 {
         return Ok(false);
     }
     for place in &walk.places {
         let longer = with_place(alloc, lost, *place)?;
-        let is_cut = can_cut(alloc, walks, &longer, more - 1)?;
+        let is_cut = can_cut(alloc, walks, unmet, &longer, more - 1)?;
         if is_cut {
             return Ok(true);
         }
@@ -81,7 +90,7 @@ pub(crate) fn losses_survived(alloc: Global, walks: &[OpenWalk<'_>]) -> Result<u
 {
     let mut survived = 0;
     while survived < MAX_LOST {
-        let is_cut = can_cut(alloc, walks, &[], survived + 1)?;
+        let is_cut = can_cut(alloc, walks, 0, &[], survived + 1)?;
         if is_cut {
             return Ok(survived);
         }

@@ -1,5 +1,5 @@
 -- Links that meet walks, by their places in a list of links.
-use Rattle.std.specs.Prelude.{◌≡◌, ℕ, ◌<◌, ◌≤◌, ◌==◌, suc, Bool, true, false, List, [], ◌++◌, length, All, Contains}
+use Rattle.std.specs.Prelude.{◌≡◌, ℕ, ◌<◌, ◌≤◌, ◌==◌, suc, Bool, true, false, List, [], ◌++◌, length, get_or, take, All, Contains}
 use Rattle.std.specs.List.{list_all, list_any}
 use Rattle.path_report.specs.declared.open_walk.OpenWalk.{OpenWalk}
 
@@ -13,6 +13,12 @@ is_met lost walk = list_any (λ place. crosses_at place walk) lost
 -- whether each of the walks crosses one of these links
 abbrev pub are_met : (lost : List ℕ) → List OpenWalk → Bool
 are_met lost walks = list_all (is_met lost) walks
+
+-- the walk at this place is the first that crosses none of these links
+pub record IsFirstUnmet (lost : List ℕ) (walks : List OpenWalk) (place : ℕ) : Type 0 where
+  pub within : place < length walks
+  pub before : are_met lost (take place walks) ≡ true
+  pub here : (walk : OpenWalk) → walk ≡ get_or walks place walk → is_met lost walk ≡ false
 
 -- a walk crosses the link at this place
 abbrev pub IsCrossed : List OpenWalk → (place : ℕ) → Type 0

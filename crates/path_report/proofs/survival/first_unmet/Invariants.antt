@@ -1,7 +1,13 @@
--- Each walk so far crosses one of the links.
-use Rattle.std.proofs.Common.{◌≡◌, take, true}
+-- Each walk before this one crosses one of the links.
+use Rattle.std.proofs.Common.{◌≡◌, ◌-◌, ◌≤◌, length, take, true}
 use Rattle.path_report.specs.inner.Cuts.{are_met}
 use Rattle.path_report.proofs.survival.first_unmet.Given as goal
 
-abbrev pub invariant-loop-walk : goal.invariant-loop-walk
-invariant-loop-walk l = are_met l.lost (take l.walk-index l.walks) ≡ true
+abbrev pub invariant-loop-place : goal.invariant-loop-place
+invariant-loop-place l = record {
+  within : l.place ≤ length l.walks;
+  met : are_met l.lost (take l.place l.walks) ≡ true;
+}
+
+abbrev pub decreases-loop-place : goal.decreases-loop-place
+decreases-loop-place l = length l.walks - l.place
