@@ -2,7 +2,7 @@
 use Rattle.std.proofs.Common.{rules, ◌≡◌, ℕ, ◌+◌, ◌==◌, ◌||◌, not, Bool, true, false, List, [], ◌∷◌, ◌++◌, length, map, Option, Some, None, Result, Ok, Err, is_some, refl, sym, ap, subst, ◌∙◌, append_assoc, append-nil}
 use Rattle.std.proofs.Math.Dec.{eqb-suc-zero}
 use denote.Ref.{Bor}
-use Rattle.std.specs.Prelude.{All, IfOk, IfSome, codes, flat_map, if◌then◌else◌}
+use Rattle.std.specs.Prelude.{All, IfOk, IfSome, OnOk, codes, flat_map, if◌then◌else◌}
 use Rattle.std.specs.String.{string_bytes}
 use Rattle.std.proofs.lemmas.Option.{same_Some}
 use Rattle.std.proofs.lemmas.Grind.{flat_map-append}
@@ -16,8 +16,9 @@ use Rattle.event_lines.specs.Run.{has_line_end}
 use Rattle.line_faults.specs.declared.finding.FindingForm.{FindingForm}
 use Rattle.line_faults.specs.declared.said.Said.{Said}
 use Rattle.line_faults.specs.Finding.{FindingValue, all_written, has_any, written}
-use Rattle.line_faults.specs.Explanation.{AreReasons, IsReason, IsTold, IsWarning, Names}
+use Rattle.line_faults.specs.Explanation.{AreReasons, IsAbout, IsReason, IsTold, IsWarning, Names}
 use Rattle.line_faults.specs.Misfits.{Meant, meant_in, refused_misfit}
+use Rattle.line_faults.specs.Subjects.{plain_subject, refused_subject, subject_in, subject_of}
 use Rattle.line_faults.specs.inner.Adding.{Adds, AddsOne, AreFound, one_line, warning_of}
 use Rattle.line_faults.specs.inner.Meaning.{IsStill, both_said, meant_by, member_said, wanted_said}
 use Rattle.line_faults.specs.inner.Telling.{Tally, TellsReply}
@@ -97,6 +98,51 @@ pub meant_there : (number : ℕ) (line : List ℕ) (refusal : ℕ) (value : Opti
 meant_there number line refusal value said is there =
     subst (λ (v : Option Data). IfSome (v >>= refused_misfit (number == 1) refusal) (λ one. meant_by said ≡ Some one))
     is (meant_of_value number refusal value said there)
+
+-- and so is the member
+subject_still : (name : Option (List ℕ)) (old told : Said) → IsStill old told
+    → IfSome name (λ one. member_said old ≡ Some one) → IfSome name (λ one. member_said told ≡ Some one)
+subject_still None old told still is = tt
+subject_still (Some one) old told still is = still.0 ∙ is
+
+pub subject_on : {E : Type 0} (result : Result Said E) (name : Option (List ℕ)) (old : Said)
+    → IfOk result (IsStill old) → IfSome name (λ one. member_said old ≡ Some one)
+    → IfOk result (λ told. IfSome name (λ one. member_said told ≡ Some one))
+subject_on (Ok told) name old still is = subject_still name old told still is
+subject_on (Err error) name old still is = tt
+
+subject_of_value : (number : ℕ) (refusal : ℕ) (value : Option Data) (said : Said)
+    → IfSome value (λ d. IfSome (refused_subject (number == 1) refusal d) (λ one. member_said said ≡ Some one))
+    → IfSome (value >>= refused_subject (number == 1) refusal) (λ one. member_said said ≡ Some one)
+subject_of_value number refusal None said there = tt
+subject_of_value number refusal (Some d) said there = there
+
+pub subject_there : (number : ℕ) (line : List ℕ) (refusal : ℕ) (value : Option Data) (said : Said)
+    → value ≡ document_in line
+    → IfSome value (λ d. IfSome (refused_subject (number == 1) refusal d) (λ one. member_said said ≡ Some one))
+    → IfSome (subject_in number line refusal) (λ one. member_said said ≡ Some one)
+subject_there number line refusal value said is there =
+    subst (λ (v : Option Data). IfSome (v >>= refused_subject (number == 1) refusal) (λ one. member_said said ≡ Some one))
+    is (subject_of_value number refusal value said there)
+
+-- a finding is about it, if it is that of what is said
+pub about_subject : (name : Option (List ℕ)) (said : Said) (finding : FindingValue)
+    → IfSome name (λ one. member_said said ≡ Some one) → finding.member ≡ member_said said → IfSome name (IsAbout finding)
+about_subject None said finding is member = tt
+about_subject (Some one) said finding is member = member ∙ is
+
+-- a line that has not the form of one has no such member
+no_subject : (word : Option (List ℕ)) (number : ℕ) (said : Said) → number ≡ 140
+    → IfSome (word >>= λ w. subject_of w number) (λ one. member_said said ≡ Some one)
+unfolding subject_of plain_subject
+no_subject None number said is = tt
+no_subject (Some word) number said is =
+    subst (λ (n : ℕ). IfSome (subject_of word n) (λ one. member_said said ≡ Some one)) (sym is) tt
+
+pub no_subject_on : {A E : Type 0} (result : Result A E) (word : Option (List ℕ)) (number : ℕ) (said : Said) → number ≡ 140
+    → OnOk result (IfSome (word >>= λ w. subject_of w number) (λ one. member_said said ≡ Some one))
+no_subject_on (Ok done) word number said is = no_subject word number said is
+no_subject_on (Err error) word number said is = tt
 
 -- ---- warnings
 

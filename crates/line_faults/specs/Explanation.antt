@@ -4,14 +4,20 @@ use Rattle.event_lines.specs.Refusals.{Tells, is_refusal}
 use Rattle.event_lines.specs.Run.{has_line_end}
 use Rattle.line_faults.specs.Finding.{FindingValue}
 use Rattle.line_faults.specs.Misfits.{Meant, meant_in}
+use Rattle.line_faults.specs.Subjects.{subject_in}
 
 -- the finding names this member and what is wanted there
 abbrev pub Names : FindingValue → Meant → Type 0
 Names finding meant = (finding.member ≡ Some meant.member) × (finding.wanted ≡ Some meant.wanted)
 
+-- the finding is about this member
+abbrev pub IsAbout : FindingValue → List ℕ → Type 0
+IsAbout finding member = finding.member ≡ Some member
+
 -- the finding says why the line of this number has this reply, with the number and the name of the
 -- refusal that the reply tells; if the line has not the form of one, it names the first member that
--- is missing or not of its form
+-- is missing or not of its form, and if it has and is an event that something below refuses, it is
+-- about the member that is meant
 pub record IsReason (number : ℕ) (line reply : List ℕ) (finding : FindingValue) : Type 0 where
   pub coded : ℕ × List ℕ
   pub tells : Tells reply (Some coded)
@@ -20,6 +26,7 @@ pub record IsReason (number : ℕ) (line reply : List ℕ) (finding : FindingVal
   pub refusal : finding.refusal ≡ Some coded.0
   pub name : finding.name ≡ Some coded.1
   pub meant : IfSome (meant_in number line coded.0) (Names finding)
+  pub subject : IfSome (subject_in number line coded.0) (IsAbout finding)
   pub one : has_line_end finding.says ≡ false
 
 -- the finding is a warning about the line of this number

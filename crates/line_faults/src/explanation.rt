@@ -9,8 +9,9 @@ ghost use Rattle.event_lines.specs.Run.{has_line_end};
 ghost use Rattle.line_faults.specs.Explanation.{AreReasons, IsReason, IsTold};
 ghost use Rattle.line_faults.specs.Finding.{written};
 ghost use Rattle.line_faults.specs.Misfits.{meant_in};
+ghost use Rattle.line_faults.specs.Subjects.{subject_in};
 ghost use Rattle.line_faults.specs.inner.Adding.{Adds, AddsOne, AreFound, SaysAs, one_line, warning_of};
-ghost use Rattle.line_faults.specs.inner.Meaning.{meant_by};
+ghost use Rattle.line_faults.specs.inner.Meaning.{meant_by, member_said};
 
 use crate::finding::{Finding, FindingForm};
 use crate::reason::{Line, reason_of, warnings_of};
@@ -40,6 +41,8 @@ fn finding_of<'a>(line: &Line<'a>, code: u16, name: &'static str, why: &'a Said)
     requires tells { Tells line.now.reply.now (Some (code, name.now)) }
     requires meant { IfSome (meant_in line.now.number line.now.bytes.now code)
         (λ meant. meant_by why.now ≡ Some meant) }
+    requires subject { IfSome (subject_in line.now.number line.now.bytes.now code)
+        (λ name. member_said why.now ≡ Some name) }
     ensures is { IsReason line.now.number line.now.bytes.now line.now.reply.now result }
     ensures says { SaysAs why.now result }
 {
@@ -68,6 +71,8 @@ fn push_reason(
     requires tells { Tells line.now.reply.now (Some (refusal.0, refusal.1.now)) }
     requires meant { IfSome (meant_in line.now.number line.now.bytes.now refusal.0)
         (λ meant. meant_by why.now ≡ Some meant) }
+    requires subject { IfSome (subject_in line.now.number line.now.bytes.now refusal.0)
+        (λ name. member_said why.now ≡ Some name) }
     ensures { OnOk result (AddsOne form
         (IsReason line.now.number line.now.bytes.now line.now.reply.now)
         (string_bytes text.old) (string_bytes text.new)) }
@@ -125,7 +130,7 @@ fn push_warnings(
 }
 
 /// Adds the finding that says why a line is refused, if it is.
-#[tactic(auto, using(crate::proofs::Told::meant_there, crate::proofs::Told::no_reason, crate::proofs::Told::one_reason))]
+#[tactic(auto, using(crate::proofs::Told::meant_there, crate::proofs::Told::subject_there, crate::proofs::Told::no_reason, crate::proofs::Told::one_reason))]
 fn push_refusal(
     alloc: Global,
     form: FindingForm,

@@ -114,7 +114,7 @@ pub(crate) fn push_broken_rule(
     if !why.text.is_empty() {
         why.text.push_str(": ")?;
     }
-    push_sentence(why, code)
+    push_sentence(&mut why.text, code)
 }
 
 /// Adds how many ASes and links there are.

@@ -25,6 +25,7 @@ mod refused;
 mod said;
 mod sentence;
 mod sequence;
+mod subject;
 mod telling;
 mod topology;
 mod turn;

@@ -27,7 +27,7 @@ pub(crate) fn push_unread(
         _ => push_unread_policy(alloc, why, line, request)?,
     };
     why.text.push_str(": ")?;
-    push_sentence(why, code)
+    push_sentence(&mut why.text, code)
 }
 
 /// Adds where the first option that is refused can't be read. Returns whether there is one.

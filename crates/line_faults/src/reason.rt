@@ -3,7 +3,8 @@
 ghost use Rattle.std.specs.Prelude.{◌≡◌, ◌==◌, IfOk, IfSome, OnOk, Some, false, true};
 ghost use Rattle.serde_json.specs.View.{view};
 ghost use Rattle.line_faults.specs.Misfits.{line_site, refused_misfit, topology_misfit};
-ghost use Rattle.line_faults.specs.inner.Meaning.{IsStill, meant_by, site_of};
+ghost use Rattle.line_faults.specs.Subjects.{refused_subject};
+ghost use Rattle.line_faults.specs.inner.Meaning.{IsStill, meant_by, member_said, site_of};
 
 use crate::doubled::add_doubled;
 use crate::event::push_bad_line;
@@ -12,8 +13,9 @@ use crate::json::push_break;
 use crate::misfit::topology_misfit;
 use crate::place::Place;
 use crate::policy::push_unread;
-use crate::refused::{Context, push_refused};
+use crate::refused::{Context, push_own_refusal, push_refused};
 use crate::said::Said;
+use crate::subject::event_subject;
 use crate::topology::{push_event_first, topology_misfits};
 use crate::turn::push_refused_turn;
 use crate::unanswered::add_unanswered;
@@ -64,9 +66,12 @@ pub(crate) fn reason_of(
     code: usize,
     value: Option<&Value>,
 ) -> Result<Said, AllocError>
-    ensures { IfOk result (λ why. IfSome value.entry (λ value. IfSome
+    ensures meant { IfOk result (λ why. IfSome value.entry (λ value. IfSome
         (refused_misfit (line.now.number == 1) code (view value.now))
         (λ meant. meant_by why ≡ Some meant))) }
+    ensures subject { IfOk result (λ why. IfSome value.entry (λ value. IfSome
+        (refused_subject (line.now.number == 1) code (view value.now))
+        (λ name. member_said why ≡ Some name))) }
 {
     let mut why = Said::new(alloc);
     let Some(value) = value else {
@@ -153,16 +158,35 @@ fn push_event(
     event: &Value,
 ) -> Result<(), AllocError>
     requires { site_of line ≡ line_site }
-    ensures { OnOk result (IfSome (refused_misfit false code (view event.now))
+    ensures meant { OnOk result (IfSome (refused_misfit false code (view event.now))
         (λ meant. meant_by why.new ≡ Some meant)) }
+    ensures subject { OnOk result (IfSome (refused_subject false code (view event.now))
+        (λ name. member_said why.new ≡ Some name)) }
 {
     if code == 140 {
         return push_bad_line(why, line, event);
     }
+    match event_subject(event, code) {
+        Some(member) => push_refused(why, line, context, code, event, member),
+        None => push_other_refusal(alloc, why, line, context, code, event),
+    }
+}
+
+/// Adds why a line after the first is refused with this number, which is none that an event passes
+/// on from below: a policy that can't be read, a turn at which a router refuses the packet, or a
+/// refusal of the event's own.
+fn push_other_refusal(
+    alloc: Global,
+    why: &mut Said,
+    line: Place<'_>,
+    context: &Context<'_>,
+    code: usize,
+    event: &Value,
+) -> Result<(), AllocError> {
     match code {
         60..=66 => push_unread(alloc, why, line, code, event),
         90..=100 => push_refused_turn(alloc, why, line, context, event),
-        _ => push_refused(why, line, context, code, event),
+        _ => push_own_refusal(why, line, context, code, event),
     }
 }
 

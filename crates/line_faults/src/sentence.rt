@@ -1,6 +1,5 @@
 //! The sentences of refusals, by their numbers.
 
-use crate::said::Said;
 use beaconing::BeaconFault;
 use combinator::CombineFault;
 use network_core::OWN_FAULTS;
@@ -75,23 +74,23 @@ static PATH: [VerifyFault; 13] = [
 
 /// Adds the sentence of the fault of this number, if it is among them.
 fn push_among<F: NumberedFault>(
-    why: &mut Said,
+    text: &mut String,
     faults: &[F],
     code: usize,
 ) -> Result<(), AllocError> {
     for fault in faults {
         if usize::from(fault.code()) == code {
-            return write!(why.text, "{fault}");
+            return write!(text, "{fault}");
         }
     }
     Ok(())
 }
 
 /// Adds the sentence of the event's own refusal of this number, if there is one.
-fn push_own(why: &mut Said, code: usize) -> Result<(), AllocError> {
+fn push_own(text: &mut String, code: usize) -> Result<(), AllocError> {
     for (fault, _) in &OWN_FAULTS {
         if usize::from(fault.code()) == code {
-            return write!(why.text, "{fault}");
+            return write!(text, "{fault}");
         }
     }
     Ok(())
@@ -108,15 +107,15 @@ pub(crate) fn own_subject(code: usize) -> &'static str {
 }
 
 /// Adds the sentence of the refusal of this number; nothing if no line is refused with it.
-pub(crate) fn push_sentence(why: &mut Said, code: usize) -> Result<(), AllocError> {
+pub(crate) fn push_sentence(text: &mut String, code: usize) -> Result<(), AllocError> {
     match code {
-        10..=18 => push_among(why, &TOPOLOGY, code),
-        31..=44 => push_among(why, &BEACON, code),
-        50..=51 => push_among(why, &STORE, code),
-        60..=66 => push_among(why, &POLICY, code),
-        67 => push_among(why, &OPTION, code),
-        70..=82 => push_among(why, &PATH, code),
-        85 => push_among(why, &COMBINATION, code),
-        _ => push_own(why, code),
+        10..=18 => push_among(text, &TOPOLOGY, code),
+        31..=44 => push_among(text, &BEACON, code),
+        50..=51 => push_among(text, &STORE, code),
+        60..=66 => push_among(text, &POLICY, code),
+        67 => push_among(text, &OPTION, code),
+        70..=82 => push_among(text, &PATH, code),
+        85 => push_among(text, &COMBINATION, code),
+        _ => push_own(text, code),
     }
 }

@@ -104,7 +104,7 @@ fn push_cause(
 ) -> Result<(), AllocError> {
     match refusal {
         Refusal::LinkDown => match read_header(packet.bytes()) {
-            Ok((header, _)) => push_link(why, net, history, ia, way_out_of(&header)),
+            Ok((header, _)) => push_link(&mut why.text, net, history, ia, way_out_of(&header)),
             Err(_) => Ok(()),
         },
         Refusal::BadMac => push_key_changes(why, history, ia),

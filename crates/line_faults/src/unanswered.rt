@@ -134,7 +134,7 @@ fn add_link_down(
                     warning.text,
                     "path {number} of the answer can't be travelled now"
                 )?;
-                push_link(&mut warning, net, context.history, hop.ia, hop.egress)?;
+                push_link(&mut warning.text, net, context.history, hop.ia, hop.egress)?;
                 warnings.push(warning)?;
                 return Ok(());
             }

@@ -1,7 +1,8 @@
 use Rattle.std.proofs.Common.{refl, option_map, Some, rules}
 use Rattle.line_faults.specs.Finding.{FindingValue}
 use Rattle.line_faults.specs.Misfits.{meant_in}
-use Rattle.line_faults.proofs.Told.{names_meant}
+use Rattle.line_faults.specs.Subjects.{subject_in}
+use Rattle.line_faults.proofs.Told.{about_subject, names_meant}
 use Rattle.line_faults.proofs.explanation.finding_of.Goals as goal
 
 pub returns-clause-is : goal.returns-clause-is
@@ -27,5 +28,7 @@ returns-clause-is c =
       name = refl;
       meant = names_meant (meant_in line.number line.bytes.now c.args.code) c.args.why.now finding c.requires.meant
           c.member.ensures c.wanted.ensures;
+      subject = about_subject (subject_in line.number line.bytes.now c.args.code) c.args.why.now finding c.requires.subject
+          c.member.ensures;
       one = c.on_one_line.ensures.one;
     }
