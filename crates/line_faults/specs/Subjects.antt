@@ -10,8 +10,8 @@ use Rattle.json_fields.specs.Fields.{document_in, text_at}
 abbrev pub is_of_verifier : ℕ → Bool
 is_of_verifier number = nat_le 70 number && nat_le number 82
 
--- a refusal of a `send` for its path: it is one of the verifier, or no router or no link is where it
--- leaves
+-- a refusal of a `send` for its path: it is one of the verifier, or the topology lacks the AS or
+-- the link by which the path leaves
 abbrev pub is_of_path : ℕ → Bool
 is_of_path number = is_of_verifier number || (number == 14 || number == 17)
 
